@@ -19,11 +19,11 @@ same-by-nth : (xs ys : List ℕ) → length xs ≡ length ys → ((k : ℕ) → 
 same-by-nth xs ys l h =
     same-lists xs ys l
     (λ k d lt.
-      let p = nth-getD xs k d lt in
-      let below : k < length ys = omega arith in
-      let q = nth-getD ys k d below in
-      let e = h k lt in
-      cc)
+    let p = nth-getD xs k d lt in
+    let below : k < length ys = omega arith in
+    let q = nth-getD ys k d below in
+    let e = h k lt in
+    cc)
 
 -- the same answers at every offset below the length
 abbrev pub Answers : Meaning → Meaning → ℕ → Record → ℕ → Type 0
@@ -45,20 +45,23 @@ module _ {m n : Meaning} (hm : Lawful m) (hn : Lawful n) where
       → Answers m n b Current (l .length) → Decides r (Answers m n b Previous (l .length)) → Decides r (SameBase m n b)
   decided-by-previous b l k r lm kn same c d =
       let len : l .length ≡ m .layout b .length = ap (λ (x : Layout). x .length) lm in
-      let e : m .layout b ≡ n .layout b = sym lm ∙ (ap (λ (x : ℕ). record { length = x }) same ∙ kn) in
-      ( (λ t.
-          record
-          { layouts = e
-          ; records = by-which b e (λ o h. c o (omega arith)) (λ o h. d .0 t o (omega arith)) })
-      , λ s. d .1 (λ o h. ap (λ xs. nth xs o) (s .records Previous)) )
+      let e : m .layout b ≡ n .layout b = sym lm ∙ (ap (λ (x : ℕ). record { length = x }) same ∙ kn) in (
+        (λ t.
+            record {
+              layouts = e;
+              records = by-which b e (λ o h. c o (omega arith)) (λ o h. d .0 t o (omega arith));
+            }),
+        λ s. d .1 (λ o h. ap (λ xs. nth xs o) (s .records Previous)),
+      )
 
   -- no base above 7 tells them apart
   pub same-past : (b : ℕ) → 8 ≤ b → SameBase m n b
   same-past b h =
       let e = hm .eight b h in
       let f = hn .eight b h in
-      record
-      { layouts = e ∙ sym f
-      ; records = λ w.
-          nil-from-length (m .bytes b w) (hm .exact b w ∙ ap (λ (l : Layout). l .length) e)
-          ∙ sym (nil-from-length (n .bytes b w) (hn .exact b w ∙ ap (λ (l : Layout). l .length) f)) }
+      record {
+        layouts = e ∙ sym f;
+        records = λ w.
+            nil-from-length (m .bytes b w) (hm .exact b w ∙ ap (λ (l : Layout). l .length) e)
+            ∙ sym (nil-from-length (n .bytes b w) (hn .exact b w ∙ ap (λ (l : Layout). l .length) f));
+      }

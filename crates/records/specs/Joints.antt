@@ -19,9 +19,10 @@ side c p Previous = p
 
 -- a base whose two layouts differ is absent
 abbrev pub joined : Meaning → Meaning → Meaning
-joined c p = record
-  { layout = λ b. cond (alike (c .layout b) (p .layout b)) (c .layout b) absent
-  ; bytes = λ b w. cond (alike (c .layout b) (p .layout b)) (side c p w .bytes b w) [] }
+joined c p = record {
+  layout = λ b. cond (alike (c .layout b) (p .layout b)) (c .layout b) absent;
+  bytes = λ b w. cond (alike (c .layout b) (p .layout b)) (side c p w .bytes b w) [];
+}
 
 -- the three laws at one base, by whether the sides' layouts are alike
 eight-by : (t : Bool) (l : Layout) → l ≡ absent → cond t l absent ≡ absent
@@ -42,7 +43,8 @@ module _ {c p : Meaning} (hc : Lawful c) (hp : Lawful p) where
   side-exact b Previous t = hp .exact b Previous ∙ sym (eqb-true (c .layout b .length) (p .layout b .length) t)
 
   pub joined-lawful : Lawful (joined c p)
-  joined-lawful = record
-    { eight = λ b h. eight-by (alike (c .layout b) (p .layout b)) (c .layout b) (hc .eight b h)
-    ; each = λ b. each-by (alike (c .layout b) (p .layout b)) (c .layout b) (hc .each b)
-    ; exact = λ b w. exact-by (alike (c .layout b) (p .layout b)) (c .layout b) (side c p w .bytes b w) (side-exact b w) }
+  joined-lawful = record {
+    eight = λ b h. eight-by (alike (c .layout b) (p .layout b)) (c .layout b) (hc .eight b h);
+    each = λ b. each-by (alike (c .layout b) (p .layout b)) (c .layout b) (hc .each b);
+    exact = λ b w. exact-by (alike (c .layout b) (p .layout b)) (c .layout b) (side c p w .bytes b w) (side-exact b w);
+  }

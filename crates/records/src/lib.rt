@@ -11,5 +11,5 @@ pub use joint::JointSource;
 pub use layout::Layout;
 pub use layout::LayoutPartialEq;
 pub use record::Record;
-pub use source::Source;
 pub use source::BorrowedSource;
+pub use source::Source;
