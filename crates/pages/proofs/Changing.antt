@@ -19,7 +19,7 @@ use Rattle.records.specs.Layouts.{lawful}
 use Rattle.records.specs.Meaning.{Meaning, SameBase, Same}
 use Rattle.pages.specs.declared.placement.Placement.{Placement}
 use Rattle.pages.specs.declared.refusal.Refusal.{Refusal}
-use Rattle.pages.specs.Refusals.{answer}
+use Rattle.pages.specs.Refusals.{answer, code}
 use Rattle.pages.specs.Placements.{nowhere, placement, row-lawful, fits, placeable, placed, turnable, turned, at-row}
 use Rattle.pages.specs.Pages.{by-rows, by-columns, row-number, row-bytes, page, held, AllHeld}
 use Rattle.pages.specs.Tables.{Shaped, Lies, row-after-row, column-after-column, Transposed, Alike}
@@ -30,6 +30,10 @@ use Rattle.pages.proofs.Writing.{Reads, rows-read, columns-read}
 map-same : (f g : ℕ → ℕ) → ((x : ℕ) → f x ≡ g x) → (xs : List ℕ) → map f xs ≡ map g xs
 map-same f g h [] = refl
 map-same f g h (x ∷ xs) = ap (λ y. y ∷ map f xs) (h x) ∙ ap (λ ys. g x ∷ ys) (map-same f g h xs)
+
+code-of : (t : Bool) → code (answer t) ≡ cond t 0 9
+code-of true = refl
+code-of false = refl
 
 -- the conditions of a call, apart
 placeable-parts : (capacity b : ℕ) (p : Placement) → placeable capacity b p ≡ true → (b ≤ 7) × (fits capacity p ≡ true)
@@ -85,6 +89,7 @@ module _ (address : Placement → ℕ → ℕ → ℕ) (written : ℕ → List (
       λ t. set-base b p (omega (arith, placeable-parts (length bytes) b p t .0)) (el ∙ cond-true (placeable (length bytes) b p) (placed before b p) before t) in
       record {
         answered = ea;
+        numbered = ap code ea ∙ code-of (placeable (length bytes) b p);
         left = el;
         given = given;
         shows = λ t table s lies.
@@ -103,6 +108,7 @@ module _ (address : Placement → ℕ → ℕ → ℕ) (written : ℕ → List (
       (set-base b (at-row p r) (turnable-below before b r eight t) (el ∙ cond-true (turnable before b r) (turned before b r) before t)) in
       record {
         answered = ea;
+        numbered = ap code ea ∙ code-of (turnable before b r);
         left = el;
         given = given;
         shows = λ t table s lies.
