@@ -19,14 +19,14 @@ use Rattle.pages.proofs.Reading.{byte-of-row}
 
 -- parts of one length, joined: how many bytes they have, and byte j of part i
 module _ {X : Type 0} (f : X → List ℕ) (d : X) (len : ℕ) where
-  joined-length : (xs : List X) → ((i : ℕ) → i < length xs → length (f (getD xs i d)) ≡ len) → length (joined f xs) ≡ length xs * len
+  pub joined-length : (xs : List X) → ((i : ℕ) → i < length xs → length (f (getD xs i d)) ≡ len) → length (joined f xs) ≡ length xs * len
   joined-length [] h = sym (zero-mul len)
   joined-length (x ∷ xs) h =
       let here : length (f x) ≡ len = h 0 (omega arith) in
       let rest = joined-length xs (λ i lt. h (suc i) (omega arith)) in
       omega (arith, length-append (f x) (joined f xs), suc-mul (length xs) len)
 
-  part-at : (xs : List X) → ((i : ℕ) → i < length xs → length (f (getD xs i d)) ≡ len)
+  pub part-at : (xs : List X) → ((i : ℕ) → i < length xs → length (f (getD xs i d)) ≡ len)
       → (i j : ℕ) → i < length xs → j < len → getD (joined f xs) (i * len + j) 0 ≡ getD (f (getD xs i d)) j 0
   part-at [] h i j lt hj = absurd (omega arith)
   part-at (x ∷ xs) h zero j lt hj =

@@ -1,0 +1,13 @@
+// Tests of record sources and of pages, against cases worked out by hand from the rules of both.
+#[cfg(test)]
+mod agreeing;
+#[cfg(test)]
+mod expected;
+#[cfg(test)]
+mod joints;
+#[cfg(test)]
+mod placing;
+#[cfg(test)]
+mod reading;
+#[cfg(test)]
+mod turning;

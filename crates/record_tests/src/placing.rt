@@ -1,0 +1,231 @@
+// Which placements a page takes, and that it forgets nothing by one that it refuses.
+use crate::expected::check_base;
+use crate::expected::check_only;
+use crate::expected::counted;
+use crate::expected::number;
+use pages::ColumnPage;
+use pages::ColumnPageSource;
+use pages::Placement;
+use pages::RefusalDebug;
+use pages::RowPage;
+use pages::RowPageSource;
+use records::Layout;
+use records::Source;
+use std::test::*;
+
+// A new page of either kind gives this answer, and the base has the layout afterwards if and only if it is 0.
+fn check_placing(bytes: &[u8], base: u8, placement: Placement, answer: u8) -> Result<(), Fail> {
+    let length = if answer == 0 {
+        placement.layout.length
+    } else {
+        0
+    };
+    let mut rows = RowPage::new(bytes);
+    check_eq(number(rows.place(base, placement)), answer).note("in rows")?;
+    check_eq(rows.layout(base).length, length).note("in rows")?;
+    let mut columns = ColumnPage::new(bytes);
+    check_eq(number(columns.place(base, placement)), answer).note("in columns")?;
+    check_eq(columns.layout(base).length, length).note("in columns")
+}
+
+#[test]
+fn bases_0_to_7() -> Result<(), Fail> {
+    let placement = Placement {
+        layout: Layout { length: 4 },
+        start: 0,
+        rows: 2,
+        row: 1,
+    };
+    for (base, answer) in [(0, 0), (7, 0), (8, 9), (255, 9)] {
+        check_placing(&[0; 8], base, placement, answer)
+            .note(format_args!("base {base}"))?;
+    }
+    Ok(())
+}
+
+// 131,072 bytes hold every case, so the length alone decides.
+#[test]
+fn lengths_1_to_512(rt: LibcRuntime) -> Result<(), Fail> {
+    let bytes = counted(rt.alloc(), 131_072)?;
+    for (length, answer) in [(0, 9), (1, 0), (512, 0), (513, 9), (u16::MAX, 9)] {
+        let placement = Placement {
+            layout: Layout { length },
+            start: 0,
+            rows: 2,
+            row: 1,
+        };
+        check_placing(&bytes, 0, placement, answer).note(format_args!("length {length}"))?;
+    }
+    Ok(())
+}
+
+#[test]
+fn rows_2_to_65535_and_row_1_to_the_last(rt: LibcRuntime) -> Result<(), Fail> {
+    let bytes = counted(rt.alloc(), 65_536)?;
+    for (rows, row, answer) in [
+        (0, 0, 9),
+        (1, 0, 9),
+        (1, 1, 9),
+        (2, 0, 9),
+        (2, 1, 0),
+        (2, 2, 9),
+        (2, u32::MAX, 9),
+        (65_535, 0, 9),
+        (65_535, 1, 0),
+        (65_535, 65_534, 0),
+        (65_535, 65_535, 9),
+        (65_536, 1, 9),
+        (65_536, 65_535, 9),
+        (u32::MAX, 1, 9),
+        (u32::MAX, u32::MAX, 9),
+    ] {
+        let placement = Placement {
+            layout: Layout { length: 1 },
+            start: 0,
+            rows,
+            row,
+        };
+        check_placing(&bytes, 7, placement, answer)
+            .note(format_args!("{rows} rows, row {row}"))?;
+    }
+    Ok(())
+}
+
+// The rows must end with the bytes at the latest, and no sum or product of the largest numbers wraps.
+#[test]
+fn rows_end_within_the_bytes(rt: LibcRuntime) -> Result<(), Fail> {
+    let bytes = counted(rt.alloc(), 131_072)?;
+    for (length, start, rows, answer) in [
+        (512, 130_048, 2, 0),
+        (512, 130_049, 2, 9),
+        (2, 2, 65_535, 0),
+        (2, 3, 65_535, 9),
+        (3, 0, 65_535, 9),
+        (512, 0, 256, 0),
+        (512, 1, 256, 9),
+        (1, 131_070, 2, 0),
+        (1, 131_071, 2, 9),
+        (1, 131_072, 2, 9),
+        (512, usize::MAX - 1023, 2, 9),
+        (1, usize::MAX - 1, 2, 9),
+        (1, usize::MAX, 2, 9),
+        (512, usize::MAX, 65_535, 9),
+        (u16::MAX, usize::MAX, u32::MAX, 9),
+    ] {
+        let placement = Placement {
+            layout: Layout { length },
+            start,
+            rows,
+            row: 1,
+        };
+        check_placing(&bytes, 0, placement, answer)
+            .note(format_args!("length {length}, start {start}, {rows} rows"))?;
+    }
+    Ok(())
+}
+
+#[test]
+fn few_bytes() -> Result<(), Fail> {
+    let cases: [(&[u8], usize, u8); 6] = [
+        (&[], 0, 9),
+        (&[], usize::MAX, 9),
+        (&[5], 0, 9),
+        (&[5, 6], 0, 0),
+        (&[5, 6], 1, 9),
+        (&[5, 6, 7], 1, 0),
+    ];
+    for (bytes, start, answer) in cases {
+        let placement = Placement {
+            layout: Layout { length: 1 },
+            start,
+            rows: 2,
+            row: 1,
+        };
+        check_placing(bytes, 0, placement, answer)
+            .note(format_args!("{} bytes, start {start}", bytes.len()))?;
+    }
+    Ok(())
+}
+
+// Base 3 has two rows, and every placement after that is refused.
+#[test]
+fn refused_placements_leave_all_as_it_was() -> Result<(), Fail> {
+    let bytes = [10, 11, 12, 13, 14, 15];
+    let kept = Placement {
+        layout: Layout { length: 3 },
+        start: 0,
+        rows: 2,
+        row: 1,
+    };
+    let mut rows = RowPage::new(&bytes);
+    rows.place(3, kept)?;
+    let mut columns = ColumnPage::new(&bytes);
+    columns.place(3, kept)?;
+    for (base, length, start, count, row) in [
+        (3, 0, 0, 2, 1),
+        (3, 513, 0, 2, 1),
+        (3, 1, 0, 1, 1),
+        (3, 1, 0, 65_536, 1),
+        (3, 1, 0, 2, 0),
+        (3, 1, 0, 2, 2),
+        (3, 3, 1, 2, 1),
+        (3, 3, usize::MAX, 2, 1),
+        (4, 3, 1, 2, 1),
+        (8, 3, 0, 2, 1),
+        (255, 3, 0, 2, 1),
+    ] {
+        let placement = Placement {
+            layout: Layout { length },
+            start,
+            rows: count,
+            row,
+        };
+        check_eq(number(rows.place(base, placement)), 9)?;
+        check_eq(number(columns.place(base, placement)), 9)?;
+        check_base(&rows, 3, &[13, 14, 15], &[10, 11, 12])?;
+        check_base(&columns, 3, &[11, 13, 15], &[10, 12, 14])?;
+        check_only(&rows, 3)?;
+        check_only(&columns, 3)?;
+    }
+    Ok(())
+}
+
+// A placement takes the place of the one before it, be it longer or shorter, and of no other base's.
+#[test]
+fn placed_again() -> Result<(), Fail> {
+    let bytes = [10, 11, 12, 13, 14, 15];
+    let mut rows = RowPage::new(&bytes);
+    let mut columns = ColumnPage::new(&bytes);
+    for base in [2, 5] {
+        let placement = Placement {
+            layout: Layout { length: 3 },
+            start: 0,
+            rows: 2,
+            row: 1,
+        };
+        rows.place(base, placement)?;
+        columns.place(base, placement)?;
+    }
+    let shorter = Placement {
+        layout: Layout { length: 1 },
+        start: 1,
+        rows: 5,
+        row: 4,
+    };
+    rows.place(2, shorter)?;
+    columns.place(2, shorter)?;
+    check_base(&rows, 2, &[15], &[14])?;
+    check_base(&columns, 2, &[15], &[14])?;
+    check_base(&rows, 5, &[13, 14, 15], &[10, 11, 12])?;
+    check_base(&columns, 5, &[11, 13, 15], &[10, 12, 14])?;
+    let longer = Placement {
+        layout: Layout { length: 2 },
+        start: 0,
+        rows: 3,
+        row: 2,
+    };
+    rows.place(2, longer)?;
+    columns.place(2, longer)?;
+    check_base(&rows, 2, &[14, 15], &[12, 13])?;
+    check_base(&columns, 2, &[12, 15], &[11, 14])
+}
