@@ -9,21 +9,15 @@ use std::env;
 use std::error::AnyError;
 use std::fs;
 
-const ARCHIVE: &str = "data/archive.txt";
-
 fn main(rt: LibcRuntime) -> Result<(), AnyError> {
     rt.report(run(&rt))
 }
 
-// The archive named by the first argument, or the one that comes with the program.
 fn run(rt: &LibcRuntime) -> Result<(), AnyError> {
     let heap = rt.alloc();
-    let mut path = String::from_str(heap, ARCHIVE)?;
-    for (i, word) in env::args(rt)?.enumerate() {
-        if i == 1 {
-            path = word;
-        }
-    }
+    let Some(path) = env::args(rt)?.nth(1) else {
+        return Err("usage: archive FILE".into());
+    };
     let text = match fs::read_to_string(rt, path.as_str()) {
         Ok(text) => text,
         Err(e) => return Err(format!(heap, "cannot read {path}: {e}")?.into()),

@@ -19,7 +19,10 @@ pub impl fmt::Display for Step as StepDisplay {
         show_time(self.record.as_slice(), f)?;
         let current = verdict(self.current_holds);
         let previous = verdict(self.previous_holds);
-        write!(f, "  check sum {current}, of the row before {previous}  total ")?;
+        write!(
+            f,
+            "  check sums: current {current}, previous {previous}  total "
+        )?;
         show_growth(self.growth, f)
     }
 }
@@ -27,8 +30,22 @@ pub impl fmt::Display for Step as StepDisplay {
 // The clock's bytes are decimal digits already; a set link flag is a device that did not answer.
 fn show_time<W: fmt::Write>(bytes: &[u8], f: &mut fmt::Formatter<W>) -> fmt::Result {
     match bytes {
-        [year, month, day, hour, minute, _status, links0, links8, links16, ..] => {
-            write!(f, "20{year:02x}-{month:02x}-{day:02x} {hour:02x}:{minute:02x}")?;
+        [
+            year,
+            month,
+            day,
+            hour,
+            minute,
+            _status,
+            links0,
+            links8,
+            links16,
+            ..
+        ] => {
+            write!(
+                f,
+                "20{year:02x}-{month:02x}-{day:02x} {hour:02x}:{minute:02x}"
+            )?;
             write!(f, "  links {links0:02x} {links8:02x} {links16:02x}")
         }
         _ => write!(f, "no time"),

@@ -1,25 +1,25 @@
 // The walk: the same records as rows, as columns, and joined, one current row after another.
 use crate::show::Step;
 use crate::show::StepDisplay;
+use metering::Archive;
+use metering::Growth;
 use metering::check_sum_holds;
 use metering::columns;
 use metering::copy_record;
 use metering::total;
-use metering::Archive;
-use metering::Growth;
 use pages::ColumnPage;
 use pages::ColumnPageSource;
 use pages::Placement;
 use pages::Refusal;
 use pages::RowPage;
 use pages::RowPageSource;
-use records::agree;
 use records::BorrowedSource;
 use records::Joint;
 use records::JointSource;
 use records::Layout;
 use records::Record;
 use records::Source;
+use records::agree;
 use std::alloc::AllocError;
 use std::alloc::Global;
 use std::error::AnyError;
@@ -33,7 +33,9 @@ pub fn walk(rt: &LibcRuntime, archive: &Archive) -> Result<(), AnyError> {
     let mut rows = RowPage::new(archive.bytes());
     let mut cols = ColumnPage::new(turned.as_slice());
     let first = Placement {
-        layout: Layout { length: Archive::RECORD },
+        layout: Layout {
+            length: Archive::RECORD,
+        },
         start: 0,
         rows: archive.records(),
         row: 1,
@@ -41,7 +43,7 @@ pub fn walk(rt: &LibcRuntime, archive: &Archive) -> Result<(), AnyError> {
     told(rows.place(SITE, first))?;
     told(cols.place(SITE, first))?;
     let count = archive.records();
-    println!(rt, "{count} records, first current row 1")?;
+    println!(rt, "{count} records of 100 bytes")?;
     for row in 1..count {
         told(rows.turn(SITE, row))?;
         told(cols.turn(SITE, row))?;
@@ -53,7 +55,10 @@ pub fn walk(rt: &LibcRuntime, archive: &Archive) -> Result<(), AnyError> {
         println!(rt, "{step}")?;
     }
     let steps = count - 1;
-    println!(rt, "{steps} steps: row page, column page and joint agreed on every byte")?;
+    println!(
+        rt,
+        "{steps} steps: row page, column page and joint agreed on every byte"
+    )?;
     Ok(())
 }
 

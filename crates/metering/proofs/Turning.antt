@@ -42,12 +42,12 @@ module _ (rows : List ℕ) (w : ℕ) (p : Placement) (table : List (List ℕ)) (
       let tall = length-map table (λ row. getD row o 0) in
       ext-getD 0 (column-bytes rows w o) (column table o) (many ∙ (count o h ∙ sym tall))
       (λ k lt.
-        let below : k < length table = omega (arith, many, count o h) in
-        let within : k < length rows / w = omega (arith, many) in
-        getD-map-counting (λ k. getD rows (k * w + o) 0) 0 (length rows / w) k k 0 within (zero-add k)
-        ∙ (ap (λ xs. getD xs (k * w + o) 0) e
-        ∙ (part-at (λ row. row) [] w table wide k o below h
-        ∙ sym (getD-map (λ row. getD row o 0) table k [] 0 below))))
+      let below : k < length table = omega (arith, many, count o h) in
+      let within : k < length rows / w = omega (arith, many) in
+      getD-map-counting (λ k. getD rows (k * w + o) 0) 0 (length rows / w) k k 0 within (zero-add k)
+      ∙ (ap (λ xs. getD xs (k * w + o) 0) e
+      ∙ (part-at (λ row. row) [] w table wide k o below h
+      ∙ sym (getD-map (λ row. getD row o 0) table k [] 0 below))))
 
   all-columns : joined (column-bytes rows w) (counting 0 w) ≡ column-after-column w table
   all-columns = joined-same (column-bytes rows w) (column table) 0 w (λ o lo hi. column-is o (omega arith))
@@ -74,5 +74,5 @@ pub columns-more : (f : ℕ → List ℕ) (so-far after : List ℕ) (n : ℕ) �
     → after ≡ joined f (counting 0 (n + 1))
 columns-more f so-far after n es ea =
     let one : joined f (counting 0 (n + 1)) ≡ joined f (counting 0 n) ++ f n =
-      ap (λ k. joined f (counting 0 k)) (add-one n) ∙ (joined-from f 0 n ∙ ap (λ i. joined f (counting 0 n) ++ f i) (zero-add n)) in
+    ap (λ k. joined f (counting 0 k)) (add-one n) ∙ (joined-from f 0 n ∙ ap (λ i. joined f (counting 0 n) ++ f i) (zero-add n)) in
     cc

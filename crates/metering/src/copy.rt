@@ -7,7 +7,12 @@ use records::Source;
 use std::alloc::AllocError;
 use std::alloc::Global;
 
-pub fn copy_record<S: Source>(heap: Global, source: &S, base: u8, which: Record) -> Result<Vec<u8>, AllocError>
+pub fn copy_record<S: Source>(
+    heap: Global,
+    source: &S,
+    base: u8,
+    which: Record,
+) -> Result<Vec<u8>, AllocError>
     ensures { λ r. ⌜ made r (λ v. vec-items v ≡ S·Source .meaning (now (source .entry)) .bytes base which) ⌝ }
 {
     let mut bytes = Vec::new(heap);

@@ -18,10 +18,16 @@ pub impl fmt::Display for ArchiveFault as ArchiveFaultDisplay {
     fn fmt<W: fmt::Write>(&self, f: &mut fmt::Formatter<W>) -> fmt::Result {
         match self {
             ArchiveFault::Memory => write!(f, "there is not enough memory for the archive"),
-            ArchiveFault::NotAByte(line) => write!(f, "line {line}: a byte is two hexadecimal digits"),
+            ArchiveFault::NotAByte(line) => write!(
+                f,
+                "line {line}: a byte is two hexadecimal digits"
+            ),
             ArchiveFault::WrongLength(line) => write!(f, "line {line}: a record has 100 bytes"),
             ArchiveFault::WrongCount(records) => {
-                write!(f, "an archive has 2 to 65535 records, this one has {records}")
+                write!(
+                    f,
+                    "an archive has 2 to 65535 records, this one has {records}"
+                )
             }
         }
     }

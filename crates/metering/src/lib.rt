@@ -10,7 +10,7 @@ pub use copy::copy_record;
 pub use fault::ArchiveFault;
 pub use fault::ArchiveFaultDebug;
 pub use fault::ArchiveFaultDisplay;
+pub use record::Growth;
 pub use record::check_sum_holds;
 pub use record::total;
-pub use record::Growth;
 pub use transpose::columns;

@@ -21,7 +21,12 @@ pub fn columns(heap: Global, rows: &[u8], length: u16) -> Result<Vec<u8>, AllocE
 }
 
 // Adds the byte at an offset of every row.
-fn push_column(out: &mut Vec<u8>, rows: &[u8], width: usize, offset: usize) -> Result<(), AllocError>
+fn push_column(
+    out: &mut Vec<u8>,
+    rows: &[u8],
+    width: usize,
+    offset: usize,
+) -> Result<(), AllocError>
     requires { ⌜ offset < width ⌝ }
     ensures { λ r. ⌜ made r (λ _. vec-items (now (out .exit)) ≡ vec-items (now (out .entry)) ++ column-bytes (now (rows .entry)) width offset) ⌝ }
 {

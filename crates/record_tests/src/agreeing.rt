@@ -71,8 +71,9 @@ fn one_placement_differs() -> Result<(), Fail> {
         };
         let mut b = RowPage::new(&BYTES);
         b.place(base, placement)?;
-        check_eq(agree(&a, &b), expected)
-            .note(format_args!("base {base}, length {length}, start {start}, row {row} of {rows}"))?;
+        check_eq(agree(&a, &b), expected).note(format_args!(
+            "base {base}, length {length}, start {start}, row {row} of {rows}"
+        ))?;
         check_eq(agree(&b, &a), expected)?;
     }
     Ok(())

@@ -13,26 +13,25 @@ pub fn check_base<S: Source>(
     current: &[u8],
     previous: &[u8],
 ) -> Result<(), Fail> {
-    check_eq(source.layout(base).length as usize, current.len())
-        .note(format_args!("length of base {base}"))?;
+    check_eq(source.layout(base).length as usize, current.len()).note(format_args!(
+        "length of base {base}"
+    ))?;
     check_record(source, base, Record::Current, current).note("in the current record")?;
     check_record(source, base, Record::Previous, previous).note("in the previous record")
 }
 
-fn check_record<S: Source>(
-    source: &S,
-    base: u8,
-    which: Record,
-    bytes: &[u8],
-) -> Result<(), Fail> {
+fn check_record<S: Source>(source: &S, base: u8, which: Record, bytes: &[u8]) -> Result<(), Fail> {
     for offset in 0..bytes.len() {
-        check_eq(source.byte(base, which, offset), Some(bytes[offset]))
-            .note(format_args!("base {base}, offset {offset}"))?;
+        check_eq(source.byte(base, which, offset), Some(bytes[offset])).note(format_args!(
+            "base {base}, offset {offset}"
+        ))?;
     }
-    check_eq(source.byte(base, which, bytes.len()), None)
-        .note(format_args!("base {base}, past its end"))?;
-    check_eq(source.byte(base, which, usize::MAX), None)
-        .note(format_args!("base {base}, far past its end"))
+    check_eq(source.byte(base, which, bytes.len()), None).note(format_args!(
+        "base {base}, past its end"
+    ))?;
+    check_eq(source.byte(base, which, usize::MAX), None).note(format_args!(
+        "base {base}, far past its end"
+    ))
 }
 
 // An answer as a number: 0 where the call went through.

@@ -37,8 +37,7 @@ fn bases_0_to_7() -> Result<(), Fail> {
         row: 1,
     };
     for (base, answer) in [(0, 0), (7, 0), (8, 9), (255, 9)] {
-        check_placing(&[0; 8], base, placement, answer)
-            .note(format_args!("base {base}"))?;
+        check_placing(&[0; 8], base, placement, answer).note(format_args!("base {base}"))?;
     }
     Ok(())
 }
@@ -85,8 +84,7 @@ fn rows_2_to_65535_and_row_1_to_the_last(rt: LibcRuntime) -> Result<(), Fail> {
             rows,
             row,
         };
-        check_placing(&bytes, 7, placement, answer)
-            .note(format_args!("{rows} rows, row {row}"))?;
+        check_placing(&bytes, 7, placement, answer).note(format_args!("{rows} rows, row {row}"))?;
     }
     Ok(())
 }
@@ -118,8 +116,9 @@ fn rows_end_within_the_bytes(rt: LibcRuntime) -> Result<(), Fail> {
             rows,
             row: 1,
         };
-        check_placing(&bytes, 0, placement, answer)
-            .note(format_args!("length {length}, start {start}, {rows} rows"))?;
+        check_placing(&bytes, 0, placement, answer).note(format_args!(
+            "length {length}, start {start}, {rows} rows"
+        ))?;
     }
     Ok(())
 }
@@ -141,8 +140,10 @@ fn few_bytes() -> Result<(), Fail> {
             rows: 2,
             row: 1,
         };
-        check_placing(bytes, 0, placement, answer)
-            .note(format_args!("{} bytes, start {start}", bytes.len()))?;
+        check_placing(bytes, 0, placement, answer).note(format_args!(
+            "{} bytes, start {start}",
+            bytes.len()
+        ))?;
     }
     Ok(())
 }

@@ -14,16 +14,70 @@ use std::test::*;
 
 // Byte i is 100 + i.
 const BYTES: [u8; 24] = [
-    100, 101, 102, 103, 104, 105, 106, 107, 108, 109, 110, 111, 112, 113, 114, 115, 116, 117, 118,
-    119, 120, 121, 122, 123,
+    100,
+    101,
+    102,
+    103,
+    104,
+    105,
+    106,
+    107,
+    108,
+    109,
+    110,
+    111,
+    112,
+    113,
+    114,
+    115,
+    116,
+    117,
+    118,
+    119,
+    120,
+    121,
+    122,
+    123,
 ];
 
 // One inside the bytes, one of a single byte, one that ends with the bytes, and one over all of them.
 const PLACEMENTS: [(u8, Placement); 4] = [
-    (0, Placement { layout: Layout { length: 3 }, start: 2, rows: 4, row: 2 }),
-    (1, Placement { layout: Layout { length: 1 }, start: 20, rows: 2, row: 1 }),
-    (6, Placement { layout: Layout { length: 12 }, start: 0, rows: 2, row: 1 }),
-    (7, Placement { layout: Layout { length: 5 }, start: 4, rows: 4, row: 3 }),
+    (
+        0,
+        Placement {
+            layout: Layout { length: 3 },
+            start: 2,
+            rows: 4,
+            row: 2,
+        },
+    ),
+    (
+        1,
+        Placement {
+            layout: Layout { length: 1 },
+            start: 20,
+            rows: 2,
+            row: 1,
+        },
+    ),
+    (
+        6,
+        Placement {
+            layout: Layout { length: 12 },
+            start: 0,
+            rows: 2,
+            row: 1,
+        },
+    ),
+    (
+        7,
+        Placement {
+            layout: Layout { length: 5 },
+            start: 4,
+            rows: 4,
+            row: 3,
+        },
+    ),
 ];
 
 #[test]
@@ -52,7 +106,12 @@ fn row_after_row() -> Result<(), Fail> {
         &[112, 113, 114, 115, 116, 117, 118, 119, 120, 121, 122, 123],
         &[100, 101, 102, 103, 104, 105, 106, 107, 108, 109, 110, 111],
     )?;
-    check_base(&page, 7, &[119, 120, 121, 122, 123], &[114, 115, 116, 117, 118])?;
+    check_base(
+        &page,
+        7,
+        &[119, 120, 121, 122, 123],
+        &[114, 115, 116, 117, 118],
+    )?;
     check_base(&page, 8, &[], &[])
 }
 
@@ -71,7 +130,12 @@ fn column_after_column() -> Result<(), Fail> {
         &[101, 103, 105, 107, 109, 111, 113, 115, 117, 119, 121, 123],
         &[100, 102, 104, 106, 108, 110, 112, 114, 116, 118, 120, 122],
     )?;
-    check_base(&page, 7, &[107, 111, 115, 119, 123], &[106, 110, 114, 118, 122])?;
+    check_base(
+        &page,
+        7,
+        &[107, 111, 115, 119, 123],
+        &[106, 110, 114, 118, 122],
+    )?;
     check_base(&page, 8, &[], &[])
 }
 

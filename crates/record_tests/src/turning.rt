@@ -13,6 +13,7 @@ use std::test::*;
 
 // Four rows of two bytes, by rows and by columns.
 const BY_ROWS: [u8; 8] = [10, 11, 20, 21, 30, 31, 40, 41];
+
 const BY_COLUMNS: [u8; 8] = [10, 20, 30, 40, 11, 21, 31, 41];
 
 const FOUR_ROWS: Placement = Placement {
