@@ -5,9 +5,6 @@ use pages::Placement;
 use pages::RefusalDebug;
 use pages::RowPage;
 use pages::RowPageSource;
-use records::BorrowedSource;
-use records::Joint;
-use records::JointSource;
 use records::Layout;
 use records::agree;
 use std::test::*;
@@ -87,8 +84,7 @@ fn absent_pages() -> Result<(), Fail> {
     let mut c = RowPage::new(&BYTES);
     c.place(3, MIDDLE)?;
     check(!agree(&a, &c))?;
-    check(!agree(&c, &b))?;
-    check(agree(&a, &Joint::new(&a, &c)))
+    check(!agree(&c, &b))
 }
 
 // Four rows of two bytes and three rows of three, by rows and by columns.
@@ -109,7 +105,6 @@ fn transposed_tables() -> Result<(), Fail> {
     columns.place(0, MIDDLE)?;
     columns.place(7, three_rows)?;
     check(agree(&rows, &columns))?;
-    check(agree(&Joint::new(&rows, &columns), &Joint::new(&columns, &rows)))?;
     rows.turn(7, 1)?;
     check(!agree(&rows, &columns))?;
     columns.turn(7, 1)?;

@@ -1,5 +1,4 @@
-// What the tests expect of a source and of an answer.
-use pages::Refusal;
+// What the tests expect of a source.
 use records::Record;
 use records::Source;
 use std::alloc::AllocError;
@@ -26,29 +25,12 @@ fn check_record<S: Source>(source: &S, base: u8, which: Record, bytes: &[u8]) ->
             "base {base}, offset {offset}"
         ))?;
     }
-    check_eq(source.byte(base, which, bytes.len()), None).note(format_args!(
-        "base {base}, past its end"
-    ))?;
-    check_eq(source.byte(base, which, usize::MAX), None).note(format_args!(
-        "base {base}, far past its end"
-    ))
-}
-
-// An answer as a number: 0 where the call went through.
-pub fn number(answer: Result<(), Refusal>) -> u8 {
-    match answer {
-        Ok(()) => 0,
-        Err(refusal) => refusal.number(),
+    for offset in [bytes.len(), usize::MAX] {
+        check_eq(source.byte(base, which, offset), None).note(format_args!(
+            "base {base}, offset {offset}"
+        ))?;
     }
-}
-
-// Byte i is the rest of i by 251.
-pub fn counted(heap: Global, count: usize) -> Result<Vec<u8>, AllocError> {
-    let mut bytes = Vec::new(heap);
-    for i in 0..count {
-        bytes.push((i % 251) as u8)?;
-    }
-    Ok(bytes)
+    Ok(())
 }
 
 // Every base but this one is absent.
@@ -59,4 +41,13 @@ pub fn check_only<S: Source>(source: &S, present: u8) -> Result<(), Fail> {
         }
     }
     Ok(())
+}
+
+// Byte i is the rest of i by 251.
+pub fn counted(heap: Global, count: usize) -> Result<Vec<u8>, AllocError> {
+    let mut bytes = Vec::new(heap);
+    for i in 0..count {
+        bytes.push((i % 251) as u8)?;
+    }
+    Ok(bytes)
 }

@@ -38,8 +38,7 @@ fn current_of_the_first_previous_of_the_second() -> Result<(), Fail> {
     b.place(5, TWO_ROWS)?;
     check_base(&Joint::new(&a, &b), 5, &[12, 13], &[20, 22])?;
     check_base(&Joint::new(&b, &a), 5, &[21, 23], &[10, 11])?;
-    check_only(&Joint::new(&a, &b), 5)?;
-    check_base(&Joint::new(a, b), 5, &[12, 13], &[20, 22])
+    check_only(&Joint::new(a, b), 5)
 }
 
 // Base 0 is alike, base 1 longer in one, and bases 2 and 7 absent in one.
@@ -53,34 +52,30 @@ fn differing_layouts_are_absent() -> Result<(), Fail> {
     b.place(0, TWO_ROWS)?;
     b.place(1, NARROW)?;
     b.place(7, TWO_ROWS)?;
-    check_base(&Joint::new(&a, &b), 0, &[12, 13], &[20, 21])?;
-    check_only(&Joint::new(&a, &b), 0)?;
-    check_base(&Joint::new(&b, &a), 0, &[22, 23], &[10, 11])?;
+    let joint = Joint::new(&a, &b);
+    check_base(&joint, 0, &[12, 13], &[20, 21])?;
+    check_only(&joint, 0)?;
     check_only(&Joint::new(&b, &a), 0)
 }
 
+// Base 1 differs within the first joint, and base 2 between the two.
 #[test]
 fn joints_of_joints() -> Result<(), Fail> {
     let mut a = RowPage::new(&[10, 11, 12, 13]);
     let mut b = RowPage::new(&[20, 21, 22, 23]);
     let mut c = RowPage::new(&[30, 31, 32, 33]);
-    let mut d = RowPage::new(&[40, 41, 42, 43]);
-    for base in [0, 1, 2] {
-        a.place(base, TWO_ROWS)?;
-        b.place(base, TWO_ROWS)?;
-        c.place(base, TWO_ROWS)?;
-        d.place(base, TWO_ROWS)?;
+    for (base, in_a, in_b, in_c) in [
+        (0, TWO_ROWS, TWO_ROWS, TWO_ROWS),
+        (1, NARROW, TWO_ROWS, TWO_ROWS),
+        (2, TWO_ROWS, TWO_ROWS, NARROW),
+    ] {
+        a.place(base, in_a)?;
+        b.place(base, in_b)?;
+        c.place(base, in_c)?;
     }
-    b.place(1, NARROW)?;
-    a.place(2, NARROW)?;
-    b.place(2, NARROW)?;
-    let joint = Joint::new(Joint::new(&a, &b), Joint::new(&c, &d));
-    check_base(&joint, 0, &[12, 13], &[40, 41])?;
-    check_only(&joint, 0)?;
-    let joint = Joint::new(Joint::new(&a, &b), &c);
+    let joint = Joint::new(Joint::new(&a, &b), Joint::new(&b, &c));
     check_base(&joint, 0, &[12, 13], &[30, 31])?;
-    let joint = Joint::new(&c, Joint::new(&a, &b));
-    check_base(&joint, 0, &[32, 33], &[20, 21])
+    check_only(&joint, 0)
 }
 
 #[test]
@@ -91,6 +86,5 @@ fn a_joint_of_one_source_is_that_source() -> Result<(), Fail> {
     let joint = Joint::new(&a, &a);
     check_base(&joint, 0, &[12, 13], &[10, 11])?;
     check_base(&joint, 7, &[11], &[10])?;
-    check(agree(&joint, &a))?;
-    check(agree(&a, &Joint::new(&joint, &a)))
+    check(agree(&joint, &a))
 }

@@ -2,9 +2,13 @@
 #[cfg(test)]
 mod agreeing;
 #[cfg(test)]
+mod both;
+#[cfg(test)]
 mod expected;
 #[cfg(test)]
 mod joints;
+#[cfg(test)]
+mod layouts;
 #[cfg(test)]
 mod placing;
 #[cfg(test)]

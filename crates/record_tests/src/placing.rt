@@ -1,31 +1,24 @@
-// Which placements a page takes, and that it forgets nothing by one that it refuses.
-use crate::expected::check_base;
-use crate::expected::check_only;
+// Which placements a page takes, and that a refused one leaves the page as it was.
+use crate::both::Both;
 use crate::expected::counted;
-use crate::expected::number;
-use pages::ColumnPage;
 use pages::ColumnPageSource;
 use pages::Placement;
-use pages::RefusalDebug;
-use pages::RowPage;
 use pages::RowPageSource;
 use records::Layout;
 use records::Source;
 use std::test::*;
 
-// A new page of either kind gives this answer, and the base has the layout afterwards if and only if it is 0.
+// New pages give this answer, and have the layout afterwards if and only if it is 0.
 fn check_placing(bytes: &[u8], base: u8, placement: Placement, answer: u8) -> Result<(), Fail> {
     let length = if answer == 0 {
         placement.layout.length
     } else {
         0
     };
-    let mut rows = RowPage::new(bytes);
-    check_eq(number(rows.place(base, placement)), answer).note("in rows")?;
-    check_eq(rows.layout(base).length, length).note("in rows")?;
-    let mut columns = ColumnPage::new(bytes);
-    check_eq(number(columns.place(base, placement)), answer).note("in columns")?;
-    check_eq(columns.layout(base).length, length).note("in columns")
+    let mut pages = Both::new(bytes, bytes);
+    pages.place(base, placement, answer)?;
+    check_eq(pages.rows.layout(base).length, length)?;
+    check_eq(pages.columns.layout(base).length, length)
 }
 
 #[test]
@@ -42,7 +35,7 @@ fn bases_0_to_7() -> Result<(), Fail> {
     Ok(())
 }
 
-// 131,072 bytes hold every case, so the length alone decides.
+// The bytes suffice in every case, so the length alone decides.
 #[test]
 fn lengths_1_to_512(rt: LibcRuntime) -> Result<(), Fail> {
     let bytes = counted(rt.alloc(), 131_072)?;
@@ -89,7 +82,7 @@ fn rows_2_to_65535_and_row_1_to_the_last(rt: LibcRuntime) -> Result<(), Fail> {
     Ok(())
 }
 
-// The rows must end with the bytes at the latest, and no sum or product of the largest numbers wraps.
+// The rows end with the bytes at the latest, and no sum or product of the largest numbers wraps.
 #[test]
 fn rows_end_within_the_bytes(rt: LibcRuntime) -> Result<(), Fail> {
     let bytes = counted(rt.alloc(), 131_072)?;
@@ -148,45 +141,51 @@ fn few_bytes() -> Result<(), Fail> {
     Ok(())
 }
 
-// Base 3 has two rows, and every placement after that is refused.
+// Four rows of one byte, and after them two rows of three, by rows and by columns.
+const BY_ROWS: [u8; 10] = [1, 2, 3, 4, 10, 11, 12, 20, 21, 22];
+
+const BY_COLUMNS: [u8; 10] = [1, 2, 3, 4, 10, 20, 11, 21, 12, 22];
+
+const NARROW: Placement = Placement {
+    layout: Layout { length: 1 },
+    start: 0,
+    rows: 4,
+    row: 2,
+};
+
+const WIDE: Placement = Placement {
+    layout: Layout { length: 3 },
+    start: 4,
+    rows: 2,
+    row: 1,
+};
+
 #[test]
 fn refused_placements_leave_all_as_it_was() -> Result<(), Fail> {
-    let bytes = [10, 11, 12, 13, 14, 15];
-    let kept = Placement {
-        layout: Layout { length: 3 },
-        start: 0,
-        rows: 2,
-        row: 1,
-    };
-    let mut rows = RowPage::new(&bytes);
-    rows.place(3, kept)?;
-    let mut columns = ColumnPage::new(&bytes);
-    columns.place(3, kept)?;
-    for (base, length, start, count, row) in [
+    let mut pages = Both::new(&BY_ROWS, &BY_COLUMNS);
+    pages.place(3, WIDE, 0)?;
+    for (base, length, start, rows, row) in [
         (3, 0, 0, 2, 1),
         (3, 513, 0, 2, 1),
         (3, 1, 0, 1, 1),
         (3, 1, 0, 65_536, 1),
         (3, 1, 0, 2, 0),
         (3, 1, 0, 2, 2),
-        (3, 3, 1, 2, 1),
+        (3, 3, 5, 2, 1),
         (3, 3, usize::MAX, 2, 1),
-        (4, 3, 1, 2, 1),
-        (8, 3, 0, 2, 1),
-        (255, 3, 0, 2, 1),
+        (4, 3, 5, 2, 1),
+        (8, 3, 4, 2, 1),
+        (255, 3, 4, 2, 1),
     ] {
         let placement = Placement {
             layout: Layout { length },
             start,
-            rows: count,
+            rows,
             row,
         };
-        check_eq(number(rows.place(base, placement)), 9)?;
-        check_eq(number(columns.place(base, placement)), 9)?;
-        check_base(&rows, 3, &[13, 14, 15], &[10, 11, 12])?;
-        check_base(&columns, 3, &[11, 13, 15], &[10, 12, 14])?;
-        check_only(&rows, 3)?;
-        check_only(&columns, 3)?;
+        pages.place(base, placement, 9)?;
+        pages.check_base(3, &[20, 21, 22], &[10, 11, 12])?;
+        pages.check_only(3)?;
     }
     Ok(())
 }
@@ -194,39 +193,13 @@ fn refused_placements_leave_all_as_it_was() -> Result<(), Fail> {
 // A placement takes the place of the one before it, be it longer or shorter, and of no other base's.
 #[test]
 fn placed_again() -> Result<(), Fail> {
-    let bytes = [10, 11, 12, 13, 14, 15];
-    let mut rows = RowPage::new(&bytes);
-    let mut columns = ColumnPage::new(&bytes);
-    for base in [2, 5] {
-        let placement = Placement {
-            layout: Layout { length: 3 },
-            start: 0,
-            rows: 2,
-            row: 1,
-        };
-        rows.place(base, placement)?;
-        columns.place(base, placement)?;
-    }
-    let shorter = Placement {
-        layout: Layout { length: 1 },
-        start: 1,
-        rows: 5,
-        row: 4,
-    };
-    rows.place(2, shorter)?;
-    columns.place(2, shorter)?;
-    check_base(&rows, 2, &[15], &[14])?;
-    check_base(&columns, 2, &[15], &[14])?;
-    check_base(&rows, 5, &[13, 14, 15], &[10, 11, 12])?;
-    check_base(&columns, 5, &[11, 13, 15], &[10, 12, 14])?;
-    let longer = Placement {
-        layout: Layout { length: 2 },
-        start: 0,
-        rows: 3,
-        row: 2,
-    };
-    rows.place(2, longer)?;
-    columns.place(2, longer)?;
-    check_base(&rows, 2, &[14, 15], &[12, 13])?;
-    check_base(&columns, 2, &[12, 15], &[11, 14])
+    let mut pages = Both::new(&BY_ROWS, &BY_COLUMNS);
+    pages.place(2, NARROW, 0)?;
+    pages.place(5, NARROW, 0)?;
+    pages.place(2, WIDE, 0)?;
+    pages.check_base(2, &[20, 21, 22], &[10, 11, 12])?;
+    pages.check_base(5, &[3], &[2])?;
+    pages.place(2, NARROW, 0)?;
+    pages.check_base(2, &[3], &[2])?;
+    pages.check_base(5, &[3], &[2])
 }
