@@ -1,8 +1,8 @@
 // A page whose columns lie one after another: byte o of row k is found at start + o * rows + k.
-ghost use Prim.Native.Nat.{ℕ};
+ghost use Prim.Native.Nat.{ℕ, _<_};
 ghost use mathlib.Core.Path.{_≡_};
 ghost use denote.Ref.{now};
-ghost use lib.ListN.{length};
+ghost use lib.ListN.{length, getD};
 ghost use Rattle.pages.specs.Placements.{nowhere, placement};
 ghost use Rattle.pages.specs.Pages.{by-columns, page, page-lawful, AllHeld};
 ghost use Rattle.pages.specs.Tables.{column-after-column, Alike};
@@ -66,11 +66,18 @@ pub impl Source for ColumnPage<'_> as ColumnPageSource {
 
     fn byte(&self, base: u8, which: Record, offset: usize) -> Option<u8> {
         let at = placement::of_base(&self.bases, base);
-        let length = at.layout.length as usize;
-        if offset >= length {
+        if offset >= at.layout.length as usize {
             return None;
         }
         let row = at.row_of(which) as usize;
-        Some(self.bytes[at.start + offset * at.rows as usize + row])
+        Some(byte_at(self.bytes, &at, row, offset))
     }
+}
+
+// Byte `offset` of row `row`.
+fn byte_at(bytes: &[u8], at: &Placement, row: usize, offset: usize) -> u8
+    requires { ⌜ by-columns (now at) row offset < length (now bytes) ⌝ }
+    ensures { λ r. ⌜ r ≡ getD (now (bytes .entry)) (by-columns (now (at .entry)) row offset) 0 ⌝ }
+{
+    bytes[at.start + offset * at.rows as usize + row]
 }

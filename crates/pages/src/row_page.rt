@@ -1,8 +1,8 @@
 // A page whose rows lie one after another: byte o of row k is found at start + k * length + o.
-ghost use Prim.Native.Nat.{ℕ};
+ghost use Prim.Native.Nat.{ℕ, _<_};
 ghost use mathlib.Core.Path.{_≡_};
 ghost use denote.Ref.{now};
-ghost use lib.ListN.{length};
+ghost use lib.ListN.{length, getD};
 ghost use Rattle.pages.specs.Placements.{nowhere, placement};
 ghost use Rattle.pages.specs.Pages.{by-rows, page, page-lawful, AllHeld};
 ghost use Rattle.pages.specs.Tables.{row-after-row};
@@ -64,11 +64,18 @@ pub impl Source for RowPage<'_> as RowPageSource {
 
     fn byte(&self, base: u8, which: Record, offset: usize) -> Option<u8> {
         let at = placement::of_base(&self.bases, base);
-        let length = at.layout.length as usize;
-        if offset >= length {
+        if offset >= at.layout.length as usize {
             return None;
         }
         let row = at.row_of(which) as usize;
-        Some(self.bytes[at.start + row * length + offset])
+        Some(byte_at(self.bytes, &at, row, offset))
     }
+}
+
+// Byte `offset` of row `row`.
+fn byte_at(bytes: &[u8], at: &Placement, row: usize, offset: usize) -> u8
+    requires { ⌜ by-rows (now at) row offset < length (now bytes) ⌝ }
+    ensures { λ r. ⌜ r ≡ getD (now (bytes .entry)) (by-rows (now (at .entry)) row offset) 0 ⌝ }
+{
+    bytes[at.start + row * at.layout.length as usize + offset]
 }
