@@ -1,0 +1,4 @@
+pub mod Sections
+pub mod Keeping
+pub mod Safety
+pub mod Weighing
