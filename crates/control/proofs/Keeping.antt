@@ -15,7 +15,7 @@ use Rattle.control.specs.declared.code.LoadingCode.{LoadingCode}
 use Rattle.control.specs.declared.control.Control.{Control}
 use Rattle.control.specs.declared.control.Control.the-variants.{Plain, Push, Pop, JumpIf, Jump, Call, Return, End}
 use Rattle.control.specs.Texts.{at, ground, depth, calls, called, starts, section, Ranks, asked-more, ranks, rank}
-use Rattle.control.specs.Rules.{Place, place, Check, first-of, checks, address, broken, Keeps-rules, Inside}
+use Rattle.control.specs.Rules.{place, Check, first-of, checks, address, broken, Keeps-rules, Inside}
 use Rattle.control.proofs.Sections.{section-begins, section-goes-on, rank-begins, rank-goes-on, asked-by-call, call-from}
 
 -- the checks of an instruction, its kind apart

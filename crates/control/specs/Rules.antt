@@ -11,23 +11,16 @@ use Rattle.control.specs.declared.code.LoadingCode.{LoadingCode}
 use Rattle.control.specs.declared.code.LoadingCode.the-variants.{PushAtEight, PopAtZero, CallTooDeep, ReturnOutside, DepthDiffers, LeavesSection, SectionRunsOn, CallsBack}
 use Rattle.control.specs.declared.control.Control.{Control}
 use Rattle.control.specs.declared.control.Control.the-variants.{Plain, Push, Pop, JumpIf, Jump, Call, Return, End}
+use Rattle.control.specs.declared.place.Place.{Place}
 use Rattle.control.specs.Texts.{at, ground, depth, starts, section, rank}
 
--- what the rules ask about an instruction, beside its kind
-pub record Place : Type 0 where
-  pub number : ℕ
-  pub depth-here : ℕ
-  pub section-here : ℕ
-  pub rank-here : ℕ
-  -- whether it is the last of its section
-  pub last : Bool
-
+-- where an instruction stands, as the rules ask for it
 abbrev pub place : List Control → ℕ → Place
 place text n = record {
   number = n;
-  depth-here = depth text n;
-  section-here = section text n;
-  rank-here = rank text n;
+  depth = depth text n;
+  section = section text n;
+  rank = rank text n;
   last = eqb (n + 1) (length text) || starts text (n + 1);
 }
 
@@ -42,16 +35,16 @@ first-of (c ∷ cs) = cond (c .0) (Some (c .1)) (first-of cs)
 -- In the order of the codes' list: 03, 04, 11, 12, 13, 14, 05, 06. `d` and `s` are the depth and the section at an
 -- instruction's address.
 abbrev pub checks : Control → Place → ℕ → ℕ → List Check
-checks Push p d s = (eqb (p .depth-here) (ground + 8), PushAtEight) ∷ (p .last, SectionRunsOn) ∷ []
-checks Pop p d s = (eqb (p .depth-here) ground, PopAtZero) ∷ (p .last, SectionRunsOn) ∷ []
+checks Push p d s = (eqb (p .depth) (ground + 8), PushAtEight) ∷ (p .last, SectionRunsOn) ∷ []
+checks Pop p d s = (eqb (p .depth) ground, PopAtZero) ∷ (p .last, SectionRunsOn) ∷ []
 checks Plain p d s = (p .last, SectionRunsOn) ∷ []
 checks (JumpIf k) p d s =
-    (not (eqb d (p .depth-here)), DepthDiffers) ∷ (not (eqb s (p .section-here)), LeavesSection) ∷ (p .last, SectionRunsOn) ∷ []
-checks (Jump k) p d s = (not (eqb d (p .depth-here)), DepthDiffers) ∷ (not (eqb s (p .section-here)), LeavesSection) ∷ []
+    (not (eqb d (p .depth)), DepthDiffers) ∷ (not (eqb s (p .section)), LeavesSection) ∷ (p .last, SectionRunsOn) ∷ []
+checks (Jump k) p d s = (not (eqb d (p .depth)), DepthDiffers) ∷ (not (eqb s (p .section)), LeavesSection) ∷ []
 checks (Call k) p d s =
-    (not (eqb (p .depth-here) ground) || not (eqb d ground), DepthDiffers) ∷ (p .last, SectionRunsOn) ∷ (leb k (p .number), CallsBack)
-    ∷ (eqb (p .rank-here) 8, CallTooDeep) ∷ []
-checks Return p d s = (not (eqb (p .depth-here) ground), DepthDiffers) ∷ (eqb (p .section-here) 0, ReturnOutside) ∷ []
+    (not (eqb (p .depth) ground) || not (eqb d ground), DepthDiffers) ∷ (p .last, SectionRunsOn) ∷ (leb k (p .number), CallsBack)
+    ∷ (eqb (p .rank) 8, CallTooDeep) ∷ []
+checks Return p d s = (not (eqb (p .depth) ground), DepthDiffers) ∷ (eqb (p .section) 0, ReturnOutside) ∷ []
 checks End p d s = []
 
 abbrev pub address : Control → ℕ

@@ -1,0 +1,4 @@
+pub mod Tens
+pub mod Rounding
+pub mod Decimals
+pub mod Examples

@@ -1,0 +1,7 @@
+// Constants of a program: the binary64 number that four operand bytes stand for.
+mod decoding;
+mod digits;
+mod exponent;
+mod powers;
+
+pub use decoding::constant;

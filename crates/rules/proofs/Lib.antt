@@ -1,0 +1,4 @@
+pub mod Measuring
+pub mod Capping
+pub mod Scanning
+pub mod Judging
