@@ -1,4 +1,4 @@
 pub mod Tens
 pub mod Rounding
-pub mod Decimals
+pub mod Values
 pub mod Examples

@@ -1,23 +1,23 @@
 -- Rounding a fraction: no number of the format is nearer, a sign goes through it, and a quotient of two numbers is one rounding of the exact quotient.
 use mathlib.Core.Path.{_≡_, refl, sym, ap, subst, _∙_}
-use mathlib.Core.Bool.{Bool, true, false, not, cond, _&&_}
+use mathlib.Core.Bool.{Bool, true, false, cond, _&&_}
 use mathlib.Core.Logic.{_⊎_, inl, inr}
 use Prim.Native.Nat.{ℕ, zero, suc, _+_, _-_, _*_, _/_, _%_, _^_, _≤_, _<_, compare, Ordering, Ordering·lt, Ordering·eq, Ordering·gt}
-use native.Mathlib.Nat.{le-trans, le-of-eq, le-of-lt, lt-of-lt-of-le, not-le-of-lt, lt-of-not-le, mul-comm, mul-assoc, mul-left-comm, mul-right-comm, mul-le-mul-right, mul-pos, mul-sub, mul-one, zero-mul, add-mul, sub-add-cancel, mul-mul-mul-comm, le-of-mul-le-mul-right, suc-mul, mod-lt, div-add-mod', div-mul-le-self}
+use native.Mathlib.Nat.{le-trans, le-of-eq, le-of-lt, not-le-of-lt, mul-comm, mul-assoc, mul-left-comm, mul-right-comm, mul-le-mul-right, mul-pos, mul-sub, mul-one, zero-mul, add-mul, sub-add-cancel, mul-mul-mul-comm, le-of-mul-le-mul-right, suc-mul, mod-lt, div-add-mod', div-mul-le-self}
 use native.Mathlib.Omega.{arith, compare-lt, compare-eq, compare-gt}
 use lib.Dec.{T, ltb, leb, eqb, eqb·suc-zero, leb→le, ltb→lt}
 use lib.IntN.{ℤ, pos, negsuc}
 use lib.Pow.{pow-add, pow-pos, pow-mono, pow-lt}
-use lib.Ieee.{Float, nan, inf, fin, Format, prec, emax, low, up, down, size, nearest, odd, units, round, neg, div, fits}
+use lib.Ieee.{Float, nan, inf, fin, Format, prec, emax, low, up, down, nearest, odd, units, round, neg, div, fits}
 use lib.Ieee.Digits.{size-reaches}
 use lib.Ieee.Exact.{HasValue}
 use lib.Ieee.Fits.{two, two-le-pos, round-is, and-l, and-r}
 use lib.Ieee.Nearest.{closest}
 use lib.Ieee.Order.{drop, kept}
-use lib.Ieee.Positive.{num, den, den-pos, positive, positive-finite, value→cross, own-value, value-pos}
+use lib.Ieee.Positive.{num, den, den-pos, positive, value→cross, own-value, value-pos}
 use lib.Ieee.Scale.{finite, grid, round-val, round-under, round-same}
 use Rattle.std.proofs.shelf.Tests.{cases-lt, cond-false}
-use Rattle.constants.specs.Promises.{gap, distance, Nearest}
+use Rattle.constants.specs.Decimals.{gap, distance, Nearest}
 
 -- ---- a sign goes through
 neg-odd : (d q k l : ℕ) → neg (odd d false q k l) ≡ odd d true q k l

@@ -2,5 +2,6 @@ pub mod Digits
 pub mod Exponents
 pub mod Powers
 pub mod Constants
-pub mod Promises
+pub mod Decimals
+pub mod Cleanness
 pub mod Examples

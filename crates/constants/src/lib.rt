@@ -3,5 +3,7 @@ mod decoding;
 mod digits;
 mod exponent;
 mod powers;
+#[cfg(test)]
+mod tests;
 
 pub use decoding::constant;

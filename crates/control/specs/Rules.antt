@@ -62,15 +62,19 @@ abbrev pub broken : List Control → ℕ → Option LoadingCode
 broken text n =
     first-of (checks (at text n) (place text n) (depth text (address (at text n))) (section text (address (at text n))))
 
--- the first instruction that breaks a rule, among so many
+-- what was found before comes first
 abbrev pub or-else : Option (LoadingCode × ℕ) → Option LoadingCode → ℕ → Option (LoadingCode × ℕ)
 or-else (Some found) here n = Some found
 or-else None (Some code) n = Some (code, n)
 or-else None None n = None
 
-unfoldable pub first-broken : List Control → ℕ → Option (LoadingCode × ℕ)
-first-broken text zero = None
-first-broken text (suc n) = or-else (first-broken text n) (broken text n) n
+-- the first of so many instructions at which a test finds a code
+unfoldable pub first-found : (ℕ → Option LoadingCode) → ℕ → Option (LoadingCode × ℕ)
+first-found test zero = None
+first-found test (suc n) = or-else (first-found test n) (test n) n
+
+abbrev pub first-broken : List Control → ℕ → Option (LoadingCode × ℕ)
+first-broken text n = first-found (broken text) n
 
 abbrev pub Keeps-rules : List Control → Type 0
 Keeps-rules text = (n : ℕ) → n < length text → broken text n ≡ None

@@ -10,13 +10,14 @@ use lib.ListN.{length, getD, drop}
 use Rattle.std.specs.declared.option.Option.{Option}
 use Rattle.std.specs.declared.option.Option.the-variants.{Some, None}
 use Rattle.std.proofs.shelf.Lists.{at-drop-more, at-drop-all}
-use Rattle.std.proofs.shelf.Tests.{and-parts, and-from, and-left, and-right, ltb-true, leb-true, le-ltb, lt-ltb, le-leb, cases-eq}
+use Rattle.std.proofs.shelf.Tests.{and-parts, and-from, and-left, and-right, ltb-true, leb-true, le-ltb, lt-ltb, le-leb}
 use Rattle.control.specs.declared.code.LoadingCode.{LoadingCode}
 use Rattle.control.specs.declared.control.Control.{Control}
 use Rattle.control.specs.declared.control.Control.the-variants.{Plain}
 use Rattle.control.specs.Texts.{at}
-use Rattle.control.specs.Rules.{address, Inside, broken, or-else, first-broken, Keeps-rules}
+use Rattle.control.specs.Rules.{address, Inside, broken, first-broken, Keeps-rules}
 use Rattle.control.specs.Weights.{bound}
+use Rattle.control.proofs.Finding.{found-nowhere}
 use Rattle.control.proofs.Safety.{never-faults}
 use Rattle.control.proofs.Weighing.{within-bound}
 use Rattle.rules.specs.declared.judge.Judgment.{Judgment}
@@ -52,20 +53,8 @@ pub formed-by : (text : List Control) (b : Bool) → 1 ≤ length text → lengt
 formed-by text b lo hi e =
     e ∙ sym (ap (λ x. x && all-below (length text) text) (and-from (ltb 0 (length text)) (leb (length text) 1024) (lt-ltb 0 (length text) lo) (le-leb (length text) 1024 hi)))
 
-unfound : (o : Option (LoadingCode × ℕ)) (here : Option LoadingCode) (n : ℕ) → or-else o here n ≡ None → (o ≡ None) × (here ≡ None)
-unfound (Some found) here n h = absurd (let z : _≡_ {A = ℕ} 0 1 = cc in omega arith)
-unfound None (Some code) n h = absurd (let z : _≡_ {A = ℕ} 0 1 = cc in omega arith)
-unfound None None n h = (refl, refl)
-
-keeps-below : (text : List Control) (m : ℕ) → first-broken text m ≡ None → (n : ℕ) → n < m → broken text n ≡ None
-unfolding first-broken
-keeps-below text zero h n lt = absurd (omega arith)
-keeps-below text (suc m) h n lt =
-    let parts = unfound (first-broken text m) (broken text m) m h in
-    ⊎-elim (λ (same : n ≡ m). ap (broken text) same ∙ parts .1) (λ apart. keeps-below text m (parts .0) n (omega arith)) (cases-eq n m)
-
 pub keeps-rules : (text : List Control) → first-broken text (length text) ≡ None → Keeps-rules text
-keeps-rules text h = keeps-below text (length text) h
+keeps-rules text h = found-nowhere (broken text) (length text) h
 
 pub judged-as : (text : List Control) (found : Option (LoadingCode × ℕ)) → formed text ≡ true → found ≡ first-broken text (length text)
     → told found (bound text) ≡ judgment text

@@ -4,7 +4,6 @@ use mathlib.Core.Bool.{Bool, true, false, cond, _||_}
 use mathlib.Core.Logic.{_⊎_, ⊎-elim}
 use mathlib.Core.List.{List, [], _∷_}
 use Prim.Native.Nat.{ℕ, zero, suc, _+_, _-_, _<_, _≤_, max}
-use native.Mathlib.Nat.{zero-add, suc-add}
 use native.Mathlib.Numerals.{add-one}
 use native.Mathlib.Omega.{arith}
 use lib.Dec.{eqb}
@@ -16,30 +15,9 @@ use Rattle.control.specs.declared.code.LoadingCode.{LoadingCode}
 use Rattle.control.specs.declared.control.Control.{Control}
 use Rattle.control.specs.declared.place.Place.{Place}
 use Rattle.control.specs.Texts.{at, calls, called, starts, depth, section, Ranks, asked-more, ranks, rank}
-use Rattle.control.specs.Rules.{place, first-of, checks, address, Inside, broken, or-else, first-broken}
+use Rattle.control.specs.Rules.{place, first-of, checks, address, Inside, broken}
 use Rattle.rules.specs.Maps.{Mapped}
 use Rattle.rules.proofs.Measuring.{starts-later}
-
-pub broken-start : (text : List Control) → first-broken text 0 ≡ None
-unfolding first-broken
-broken-start text = refl
-
-pub broken-none : (text : List Control) (n : ℕ) → first-broken text n ≡ None → broken text n ≡ None → first-broken text (n + 1) ≡ None
-unfolding first-broken
-broken-none text n before here =
-    ap (first-broken text) (add-one n) ∙ (ap (λ o. or-else o (broken text n) n) before ∙ ap (λ o. or-else None o n) here)
-
-broken-stays : (text : List Control) (found : LoadingCode × ℕ) (n k : ℕ) → first-broken text n ≡ Some found → first-broken text (k + n) ≡ Some found
-unfolding first-broken
-broken-stays text found n zero h = ap (first-broken text) (zero-add n) ∙ h
-broken-stays text found n (suc k) h = ap (first-broken text) (suc-add k n) ∙ ap (λ o. or-else o (broken text (k + n)) (k + n)) (broken-stays text found n k h)
-
-pub broken-here : (text : List Control) (n total : ℕ) (code : LoadingCode) → n < total → first-broken text n ≡ None → broken text n ≡ Some code → first-broken text total ≡ Some (code, n)
-unfolding first-broken
-broken-here text n total code lt before here =
-    let now : first-broken text (suc n) ≡ Some (code, n) = ap (λ o. or-else o (broken text n) n) before ∙ ap (λ o. or-else None o n) here in
-    let e : total - suc n + suc n ≡ total = omega arith in
-    sym (ap (first-broken text) e) ∙ broken-stays text (code, n) (suc n) (total - suc n) now
 
 -- the checks at a place that is told field by field
 pub broken-is : (text : List Control) (n : ℕ) (p : Place) (d s : ℕ) → p .number ≡ n → p .depth ≡ depth text n → p .section ≡ section text n → p .rank ≡ rank text n

@@ -5,13 +5,15 @@ use mathlib.Core.Bool.{cond}
 use lib.ListN.{getD}
 use Rattle.std.proofs.shelf.Lists.{getD-replicate}
 use Rattle.control.specs.Texts.{at, calls, ranks, rank}
-use Rattle.rules.proofs.Scanning.{broken-start, broken-none, broken-here, asked-start, rank-start, asked-next, ranks-low, told-broken, told-rank}
+use Rattle.control.specs.Rules.{broken}
+use Rattle.control.proofs.Finding.{found-start, found-none, found-here}
+use Rattle.rules.proofs.Scanning.{asked-start, rank-start, asked-next, ranks-low, told-broken, told-rank}
 use Rattle.rules.proofs.scan.scan.Needs as need
 
 pub loop-n-holds : need.loop-n-holds
 loop-n-holds c =
     let text = c .args .text .now in (
-      broken-start text,
+      found-start (broken text),
       (λ s h. getD-replicate {A = ℕ} 1024 s 1 0 h ∙ sym (asked-start text s)),
       λ _. sym (rank-start text),
     )
@@ -24,7 +26,7 @@ returns-in-Some c =
     let told =
     told-broken text (c .args .marks .now) (c .args .levels .now) (c .args .starts .now) (c .pre .mapped) (c .pre .inside) (c .pre .few) n here
     (c .loop-n .rank) (c .address-of-target .result) (c .is-last .result) (c .loop-n .inv .2 here) (c .address-of-target .ensures) (c .is-last .ensures) in
-    sym (broken-here text n _ (c .in-Some .code) here (c .loop-n .inv .0) (sym told ∙ sym (c .in-Some .ensures tt)))
+    sym (found-here (broken text) n _ (c .in-Some .code) here (c .loop-n .inv .0) (sym told ∙ sym (c .in-Some .ensures tt)))
 
 pub ask-requires : need.ask-requires
 ask-requires c κs =
@@ -50,7 +52,7 @@ loop-n-again c =
     c .ask .ensures s h
     ∙ (ap (λ r. cond (calls (at text n) s) (max (getD (c .loop-n .asked) s 0) (1 + r)) (getD (c .loop-n .asked) s 0)) at-hand
     ∙ asked-next text n s (getD (c .loop-n .asked) s 0) (c .loop-n .inv .1 s h)) in (
-      broken-none text n (c .loop-n .inv .0) (sym told ∙ sym (c .in-rest .ensures tt)),
+      found-none (broken text) n (c .loop-n .inv .0) (sym told ∙ sym (c .in-rest .ensures tt)),
       asked,
       λ lt.
           let small : n + 1 < 1024 = omega (arith, c .pre .few) in

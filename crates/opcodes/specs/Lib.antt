@@ -1,0 +1,4 @@
+pub mod Families
+pub mod Named
+pub mod Numbers
+pub mod Rows

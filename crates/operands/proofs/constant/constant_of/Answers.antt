@@ -1,0 +1,7 @@
+use mathlib.Core.Path.{refl}
+use Rattle.operands.specs.Constants.{constant-of}
+use Rattle.operands.proofs.constant.constant_of.Needs as need
+
+pub returns : need.returns
+unfolding constant-of
+returns c = refl

@@ -1,0 +1,4 @@
+pub mod Cells
+pub mod Constants
+pub mod Operands
+pub mod Parts
