@@ -26,7 +26,7 @@ pub judged-at : (text : List Control) (n : ℕ) (c : Control) → at text n ≡ 
 judged-at text n c e h = subst (λ k. judged k text n ≡ None) e h
 
 -- no test of these finds anything
-abbrev All-pass : List Check → Type 0
+abbrev pub All-pass : List Check → Type 0
 All-pass [] = Unit {0}
 All-pass (c ∷ cs) = (c .0 ≡ false) × All-pass cs
 
@@ -34,7 +34,7 @@ pass-one : (t : Bool) (code : LoadingCode) (rest : Option LoadingCode) → cond 
 pass-one true code rest h = absurd (let z : _≡_ {A = ℕ} 0 1 = cc in omega arith)
 pass-one false code rest h = (refl, h)
 
-pass-all : (cs : List Check) → first-of cs ≡ None → All-pass cs
+pub pass-all : (cs : List Check) → first-of cs ≡ None → All-pass cs
 pass-all [] h = tt
 pass-all (c ∷ cs) h = let one = pass-one (c .0) (c .1) (first-of cs) h in (one .0, pass-all cs (one .1))
 

@@ -6,5 +6,5 @@ ghost use Rattle.operands.specs.Constants.{constant-of};
 pub fn constant_of(p1: u8, p2: u8, p3: u8, p4: u8) -> Option<f64>
     ensures { λ r. ⌜ r ≡ constant-of p1 p2 p3 p4 ⌝ }
 {
-    None
+    constants::constant(p1, p2, p3, p4)
 }

@@ -1,7 +1,6 @@
-use mathlib.Core.Path.{refl}
 use Rattle.operands.specs.Constants.{constant-of}
 use Rattle.operands.proofs.constant.constant_of.Needs as need
 
 pub returns : need.returns
 unfolding constant-of
-returns c = refl
+returns c = c .constant .ensures .answer

@@ -1,0 +1,4 @@
+pub mod Images
+pub mod Instructions
+pub mod Verdicts
+pub mod Trust
