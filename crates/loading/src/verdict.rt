@@ -5,6 +5,7 @@ ghost use Prim.Native.Nat.{ℕ, _*_, _<_, _≤_};
 ghost use lib.ListN.{length, getD};
 ghost use Rattle.loading.specs.Images.{lawful-length, count};
 ghost use Rattle.loading.specs.Verdicts.{verdict, text, from-judgment};
+ghost use Rattle.loading.specs.Examples.{Examples};
 ghost use Rattle.loading.specs.Trust.{Trusted-image};
 use crate::first_pass::check_alone;
 use crate::image::WIDTH;
@@ -35,6 +36,7 @@ const MOST: usize = 1024;
 pub fn judge_image(image: &[u8], layouts: &[Layout; 8]) -> Verdict
     ensures value { λ r. ⌜ r ≡ verdict (now (layouts .entry)) (now (image .entry)) ⌝ }
     ensures trusted { λ r. ⌜ Trusted-image (now (layouts .entry)) (now (image .entry)) r ⌝ }
+    ensures examples { λ _. ⌜ Examples ⌝ }
 {
     if !has_lawful_length(image) {
         return Verdict::BadLength;

@@ -12,7 +12,7 @@ use Rattle.control.specs.declared.control.Control.{Control}
 use Rattle.control.specs.Rules.{address, first-broken}
 use Rattle.control.specs.Weights.{bound}
 use Rattle.control.specs.Machine.{Goes, start, steps}
-use Rattle.control.specs.Promises.{Never-faults}
+use Rattle.control.specs.Promises.{Never-faults, Words}
 use Rattle.rules.specs.declared.judge.Judgment.{Judgment}
 use Rattle.rules.specs.declared.judge.Judgment.the-variants.{Malformed, Breaks, Keeps}
 
@@ -33,8 +33,9 @@ abbrev pub judgment : List Control → Judgment
 judgment text = cond (formed text) (told (first-broken text (length text)) (bound text)) Malformed
 
 -- What a text that keeps the rules can be trusted with: however its conditions turn out, it never faults, never leaves
--- its instructions, and never takes more steps than its bound.
+-- its instructions, and never takes more steps than its bound; and its sections and ranks are what the words say.
 abbrev pub Trusted : List Control → Judgment → Type 0
 Trusted text Malformed = Unit {0}
 Trusted text (Breaks code n) = Unit {0}
-Trusted text (Keeps limit) = Never-faults text × ((b : ℕ) → limit ≡ Some b → (cs : List Bool) → steps text (Goes start) cs ≤ b)
+Trusted text (Keeps limit) =
+    Never-faults text × ((b : ℕ) → limit ≡ Some b → (cs : List Bool) → steps text (Goes start) cs ≤ b) × Words text

@@ -14,11 +14,12 @@ use Rattle.loading.specs.Verdicts.{broken-alone, kind-at, text, from-judgment}
 use Rattle.loading.specs.Trust.{Trusted-image}
 use Rattle.control.specs.Rules.{first-found}
 use Rattle.rules.specs.Judgments.{judgment, Trusted}
+use Rattle.loading.proofs.Worked.{examples}
 use Rattle.loading.proofs.Passing.{sized, alone-ok, alone-err, kinds-are, verdict-is, trusted-image, bad-length, refused-alone}
 use Rattle.loading.proofs.verdict.judge_image.Needs as need
 
 pub returns-then-not-has-lawful-length : need.returns-then-not-has-lawful-length
-returns-then-not-has-lawful-length c = record { value = bad-length (c .args .layouts .now) (c .args .image .now) (sym (c .if-not-has-lawful-length .ensures tt)); trusted = tt }
+returns-then-not-has-lawful-length c = record { value = bad-length (c .args .layouts .now) (c .args .image .now) (sym (c .if-not-has-lawful-length .ensures tt)); trusted = tt; examples = examples }
 
 pub loop-n-holds : need.loop-n-holds
 loop-n-holds c = (
@@ -49,8 +50,7 @@ returns-in-Err c =
     record {
       value = refused-alone layouts image (c .in-Err .code) n (sym (c .if-not-has-lawful-length .ensures tt))
           (found-here (broken-alone layouts image) n (count image) (c .in-Err .code) (c .loop-n-test .taken) (c .loop-n .inv .0) broken);
-      trusted = tt;
-    }
+      trusted = tt; examples = examples }
 
 pub loop-n-again : need.loop-n-again
 loop-n-again c =
@@ -80,4 +80,5 @@ returns c =
       trusted =
           subst (Trusted-image layouts image) (sym (c .as-verdict .ensures))
           (trusted-image layouts image s own (c .judge-text .result) (subst (λ t. Trusted t (c .judge-text .result)) part (c .judge-text .ensures .trusted)));
+      examples = examples;
     }
