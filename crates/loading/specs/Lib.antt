@@ -3,3 +3,4 @@ pub mod Instructions
 pub mod Verdicts
 pub mod Trust
 pub mod Examples
+pub mod Decoded

@@ -58,7 +58,7 @@ fn byte_at(bytes: &[u8], i: usize) -> u8
     if i < bytes.len() { bytes[i] } else { 0 }
 }
 
-fn takes_address(opcode: u8) -> bool
+pub fn takes_address(opcode: u8) -> bool
     ensures { λ r. ⌜ r ≡ takes-address opcode ⌝ }
 {
     0x33 <= opcode && opcode <= 0x3a

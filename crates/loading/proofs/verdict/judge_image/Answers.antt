@@ -50,7 +50,9 @@ returns-in-Err c =
     record {
       value = refused-alone layouts image (c .in-Err .code) n (sym (c .if-not-has-lawful-length .ensures tt))
           (found-here (broken-alone layouts image) n (count image) (c .in-Err .code) (c .loop-n-test .taken) (c .loop-n .inv .0) broken);
-      trusted = tt; examples = examples }
+      trusted = tt;
+      examples = examples;
+    }
 
 pub loop-n-again : need.loop-n-again
 loop-n-again c =
