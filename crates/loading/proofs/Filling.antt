@@ -3,9 +3,9 @@ use mathlib.Core.Path.{_≡_, refl, sym, ap, subst, _∙_}
 use mathlib.Core.Bool.{Bool, true, false}
 use mathlib.Core.Logic.{⊎-elim}
 use mathlib.Core.List.{List}
-use Prim.Native.Nat.{ℕ, _+_, _<_, _≤_}
+use Prim.Native.Nat.{ℕ, zero, suc, _+_, _<_, _≤_}
 use native.Mathlib.Omega.{arith}
-use lib.ListN.{length, getD, set}
+use lib.ListN.{length, getD, set, replicate}
 use Rattle.std.specs.declared.option.Option.{Option}
 use Rattle.std.proofs.shelf.Lists.{getD-set-same, getD-set-other}
 use Rattle.std.proofs.shelf.Tests.{cases-bool, cases-eq}
@@ -47,3 +47,8 @@ stands layouts image n x bytes i ex eb named operand = (
   subst (λ y. known y ≡ true → number (i .opcode) ≡ y) ex named,
   operand ∙ (ap (λ y. operand-for layouts y bytes) ex ∙ ap (λ b. operand-for layouts (opcode-at image n) b) eb),
 )
+
+pub all-alike : {X : Type 0} (k : ℕ) (x : X) (n : ℕ) → getD (replicate k x) n x ≡ x
+all-alike zero x n = refl
+all-alike (suc k) x zero = refl
+all-alike (suc k) x (suc n) = all-alike k x n

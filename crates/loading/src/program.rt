@@ -1,12 +1,14 @@
 // A loaded program: its instructions, ready to run, in memory of a fixed size.
 ghost use mathlib.Core.Path.{_≡_};
-ghost use mathlib.Core.Bool.{true};
+ghost use mathlib.Core.Bool.{true, cond, _&&_};
+ghost use lib.Dec.{ltb};
 ghost use Prim.Native.Nat.{ℕ, _*_, _+_, _<_, _≤_};
 ghost use lib.ListN.{length, getD};
+ghost use Rattle.std.specs.declared.option.Option.the-variants.{Some, None};
 ghost use Rattle.loading.specs.Images.{lawful-length, count};
 ghost use Rattle.loading.specs.Verdicts.{verdict};
 ghost use Rattle.loading.specs.Trust.{Trusted-image};
-ghost use Rattle.loading.specs.Decoded.{Decodes, Loaded};
+ghost use Rattle.loading.specs.Decoded.{Decodes, Loaded, nothing};
 use crate::image::WIDTH;
 use crate::image::opcode_at;
 use crate::image::operand_at;
@@ -28,7 +30,8 @@ pub struct Program {
 
 impl Program {
     pub fn new() -> Program
-        ensures { λ r. ⌜ r .count ≡ 0 ⌝ }
+        ensures none { λ r. ⌜ (r .count ≡ 0) × (r .bound ≡ None) ⌝ }
+        ensures empty { λ r. ⌜ ((n : ℕ) → getD (r .instructions) n nothing ≡ nothing) ⌝ }
     {
         Program {
             instructions: [Instruction::NOTHING; MOST],
@@ -51,6 +54,28 @@ impl Program {
             self.bound = bound;
         }
         verdict
+    }
+
+    pub fn count(&self) -> u16
+        ensures { λ r. ⌜ r ≡ now (self .entry) .count ⌝ }
+    {
+        self.count
+    }
+
+    // The most steps that a cycle takes, where that is known.
+    pub fn step_bound(&self) -> Option<u32>
+        ensures { λ r. ⌜ r ≡ now (self .entry) .bound ⌝ }
+    {
+        self.bound
+    }
+
+    pub fn instruction(&self, n: u16) -> Option<Instruction>
+        ensures { λ r. ⌜ r ≡ cond (ltb n (now (self .entry) .count) && ltb n 1024) (Some (getD (now (self .entry) .instructions) n nothing)) None ⌝ }
+    {
+        if n < self.count && (n as usize) < MOST {
+            return Some(self.instructions[n as usize]);
+        }
+        None
     }
 }
 
