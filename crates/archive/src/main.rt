@@ -1,7 +1,10 @@
-// Walks over a metering site's archive, record by record, and prints what each step shows.
+// Loads a metering site's loss program, then walks over the site's archive, and prints each step.
+mod listing;
+mod loss;
 mod show;
 mod walk;
 
+use metering::parse_bytes;
 use metering::Archive;
 use metering::ArchiveFaultDebug;
 use metering::ArchiveFaultDisplay;
@@ -15,15 +18,31 @@ fn main(rt: LibcRuntime) -> Result<(), AnyError> {
 
 fn run(rt: &LibcRuntime) -> Result<(), AnyError> {
     let heap = rt.alloc();
-    let Some(path) = env::args(rt)?.nth(1) else {
-        return Err("usage: archive FILE".into());
+    let mut words = env::args(rt)?.skip(1);
+    let (Some(archive), Some(program)) = (words.next(), words.next()) else {
+        return Err("usage: archive ARCHIVE PROGRAM".into());
     };
-    let text = match fs::read_to_string(rt, path.as_str()) {
-        Ok(text) => text,
-        Err(e) => return Err(format!(heap, "cannot read {path}: {e}")?.into()),
-    };
+    let records = read_archive(rt, archive.as_str())?;
+    let text = read_text(rt, program.as_str())?;
+    match parse_bytes(heap, text.as_str()) {
+        Ok(image) => loss::show_loss(rt, image.as_slice())?,
+        Err(e) => return Err(format!(heap, "{program} is no program: {e}")?.into()),
+    }
+    walk::walk(rt, &records)
+}
+
+fn read_archive(rt: &LibcRuntime, path: &str) -> Result<Archive, AnyError> {
+    let heap = rt.alloc();
+    let text = read_text(rt, path)?;
     match Archive::parse(heap, text.as_str()) {
-        Ok(archive) => walk::walk(rt, &archive),
+        Ok(archive) => Ok(archive),
         Err(e) => Err(format!(heap, "{path} is no archive: {e}")?.into()),
+    }
+}
+
+fn read_text(rt: &LibcRuntime, path: &str) -> Result<String, AnyError> {
+    match fs::read_to_string(rt, path) {
+        Ok(text) => Ok(text),
+        Err(e) => Err(format!(rt.alloc(), "cannot read {path}: {e}")?.into()),
     }
 }

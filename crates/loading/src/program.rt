@@ -21,6 +21,7 @@ use records::Layout;
 // The most instructions of a program.
 const MOST: usize = 1024;
 
+#[derive(Drop)]
 pub struct Program {
     instructions: [Instruction; MOST],
     // How many of them are the program's; none before a program is loaded.

@@ -5,13 +5,19 @@ use crate::images::JMP;
 use crate::images::JR;
 use crate::images::L;
 use crate::images::NOP;
+use crate::images::NO_LAYOUTS;
 use crate::images::POP;
 use crate::images::PUSH;
 use crate::images::RET;
 use crate::images::STRANGE;
 use crate::images::UNKNOWN;
+use crate::images::append;
 use crate::images::check_refused;
 use control::LoadingCode;
+use loading::Verdict;
+use loading::VerdictDebug;
+use loading::VerdictPartialEq;
+use loading::judge_image;
 use std::test::*;
 
 // The rules of each instruction by itself come first, in the order of the instructions, whatever the other rules say of those
@@ -201,13 +207,16 @@ fn nine_deep(rt: LibcRuntime) -> Result<(), Fail> {
         (10, LoadingCode::DepthDiffers, 0),
         (1, LoadingCode::PushAtEight, 9),
     ] {
-        let mut program = [(PUSH, 0); 20];
-        program[0] = (JR, target);
-        for i in 10..19 {
-            program[i] = (POP, 0);
-        }
-        program[19] = (END, 0);
-        check_refused(rt.alloc(), &program, code, number)?;
+        let mut image = Vec::new(rt.alloc());
+        append(&mut image, 1, JR, target)?;
+        append(&mut image, 9, PUSH, 0)?;
+        append(&mut image, 9, POP, 0)?;
+        append(&mut image, 1, END, 0)?;
+        check_eq(
+            judge_image(&image, &NO_LAYOUTS),
+            Verdict::Refused(code, number),
+        )
+        .note(format_args!("to {target}"))?;
     }
     Ok(())
 }

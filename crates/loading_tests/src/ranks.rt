@@ -97,16 +97,40 @@ fn called_from_several_ranks(rt: LibcRuntime) -> Result<(), Fail> {
     check_accepted(heap, &low, Some(21))
 }
 
-// A section that is called from higher numbers alone has rank 1: here that of 1, and that of 2k - 1 is k.
+// A section of rank k at 2k - 1, for k from 1 to 9; only the last calls 1.
+const BEHIND: [(u8, u8); 19] = [
+    (END, 0),
+    (CALL, 3),
+    (RET, 0),
+    (CALL, 5),
+    (RET, 0),
+    (CALL, 7),
+    (RET, 0),
+    (CALL, 9),
+    (RET, 0),
+    (CALL, 11),
+    (RET, 0),
+    (CALL, 13),
+    (RET, 0),
+    (CALL, 15),
+    (RET, 0),
+    (CALL, 17),
+    (RET, 0),
+    (CALL, 1),
+    (RET, 0),
+];
+
+// A section that is called from higher numbers alone has rank 1.
 #[test]
 fn called_from_behind(rt: LibcRuntime) -> Result<(), Fail> {
-    let mut program = [(RET, 0); 19];
-    program[0] = (END, 0);
-    for k in 1..9 {
-        program[2 * k - 1] = (CALL, 2 * k as u8 + 1);
-    }
-    program[17] = (CALL, 1);
-    check_refused(rt.alloc(), &program, LoadingCode::CallTooDeep, 15)?;
-    program[15] = (CALL, 1);
-    check_refused(rt.alloc(), &program, LoadingCode::CallsBack, 15)
+    let heap = rt.alloc();
+    check_refused(heap, &BEHIND, LoadingCode::CallTooDeep, 15)?;
+    // 14 and 05
+    let mut sooner = BEHIND;
+    sooner[15] = (CALL, 1);
+    check_refused(heap, &sooner, LoadingCode::CallsBack, 15)?;
+    // with rank 7 at most before it, only the call back is wrong
+    let mut low = BEHIND;
+    low[13] = (RET, 0);
+    check_refused(heap, &low, LoadingCode::CallsBack, 17)
 }

@@ -55,6 +55,23 @@ impl Archive {
     }
 }
 
+// The bytes of a text that is no archive: two hexadecimal digits each, with comments as in an archive.
+pub fn parse_bytes(heap: Global, text: &str) -> Result<Vec<u8>, ArchiveFault> {
+    let mut bytes = Vec::new(heap);
+    for (index, line) in text.lines().enumerate() {
+        if is_comment(line) {
+            continue;
+        }
+        for word in line.split_ascii_whitespace() {
+            let Some(byte) = hex_byte(word.as_bytes()) else {
+                return Err(ArchiveFault::NotAByte(index.saturating_add(1)));
+            };
+            bytes.push(byte)?;
+        }
+    }
+    Ok(bytes)
+}
+
 fn is_comment(line: &str) -> bool {
     match line.as_bytes() {
         [] => true,

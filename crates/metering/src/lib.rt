@@ -5,6 +5,7 @@ mod fault;
 mod record;
 mod transpose;
 
+pub use archive::parse_bytes;
 pub use archive::Archive;
 pub use copy::copy_record;
 pub use fault::ArchiveFault;
