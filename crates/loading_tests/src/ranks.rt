@@ -48,8 +48,8 @@ fn rank_eight(rt: LibcRuntime) -> Result<(), Fail> {
     check_refused(heap, &back, LoadingCode::CallsBack, 16)
 }
 
-// Section 0 calls 3 and 17. From 3 on a chain of ranks 1 to 7, whose last calls 19; 17, of rank 1 or 2, calls 19 too, and 19
-// calls 21.
+// Section 0 calls 3 and 17. From 3 on a chain of ranks 1 to 7, whose last calls 19; 17, of rank 1, calls 19 too, and 19 calls
+// 21.
 const SHARED: [(u8, u8); 22] = [
     (CALL, 3),
     (CALL, 17),
@@ -83,7 +83,7 @@ fn called_from_several_ranks(rt: LibcRuntime) -> Result<(), Fail> {
     let mut without = SHARED;
     without[19] = (RET, 0);
     without[20] = (CALL, 21);
-    // 20 is no section of its own, so it runs on to 21
+    // 13 and 05: 20 is the last of its section
     check_refused(heap, &without, LoadingCode::SectionRunsOn, 20)?;
     without[20] = (RET, 0);
     check_accepted(heap, &without, Some(21))?;
@@ -129,8 +129,9 @@ fn called_from_behind(rt: LibcRuntime) -> Result<(), Fail> {
     let mut sooner = BEHIND;
     sooner[15] = (CALL, 1);
     check_refused(heap, &sooner, LoadingCode::CallsBack, 15)?;
-    // with rank 7 at most before it, only the call back is wrong
+    // without the calls at 11 and 13 the rank of 17 is 7, so that only 14 is left
     let mut low = BEHIND;
+    low[11] = (RET, 0);
     low[13] = (RET, 0);
     check_refused(heap, &low, LoadingCode::CallsBack, 17)
 }
