@@ -1,9 +1,9 @@
 // The loss program: its listing, the verdict on it, and what loading says of four bad variants.
 use crate::listing::Line;
 use crate::listing::LineDisplay;
-use loading::judge_image;
 use loading::Program;
 use loading::Verdict;
+use loading::judge_image;
 use records::Layout;
 use std::error::AnyError;
 
@@ -29,25 +29,52 @@ pub fn show_loss(rt: &LibcRuntime, image: &[u8]) -> Result<(), AnyError> {
     }
     show_verdict(rt, verdict)?;
     show_variant(rt, image, "an unknown opcode", 2, [0x3c, 0, 0, 0, 0])?;
-    show_variant(rt, image, "a constant with its digits and exponent exchanged", 15, [0x1f, 0xc0, 0, 0, 0x02])?;
+    show_variant(
+        rt,
+        image,
+        "a constant with its digits and exponent exchanged",
+        15,
+        [0x1f, 0xc0, 0, 0, 0x02],
+    )?;
     show_variant(rt, image, "a jump past the end", 19, [0x34, 64, 0, 0, 0])?;
     show_variant(rt, image, "no END", 63, [0, 0, 0, 0, 0])
 }
 
-fn show_line(rt: &LibcRuntime, image: &[u8], program: &Program, number: u16) -> Result<(), AnyError> {
+fn show_line(
+    rt: &LibcRuntime,
+    image: &[u8],
+    program: &Program,
+    number: u16,
+) -> Result<(), AnyError> {
     let start = number as usize * 5;
     if let Some(instruction) = program.instruction(number)
         && start + 5 <= image.len()
     {
-        let bytes = [image[start], image[start + 1], image[start + 2], image[start + 3], image[start + 4]];
-        let line = Line { number, bytes, instruction };
+        let bytes = [
+            image[start],
+            image[start + 1],
+            image[start + 2],
+            image[start + 3],
+            image[start + 4],
+        ];
+        let line = Line {
+            number,
+            bytes,
+            instruction,
+        };
         println!(rt, "{line}")?;
     }
     Ok(())
 }
 
 // The same image with one instruction replaced.
-fn show_variant(rt: &LibcRuntime, image: &[u8], what: &str, number: usize, bytes: [u8; 5]) -> Result<(), AnyError> {
+fn show_variant(
+    rt: &LibcRuntime,
+    image: &[u8],
+    what: &str,
+    number: usize,
+    bytes: [u8; 5],
+) -> Result<(), AnyError> {
     let mut variant = image.to_vec(rt.alloc())?;
     for i in 0..5 {
         if let Some(place) = variant.get_mut(number.saturating_mul(5).saturating_add(i)) {

@@ -4,10 +4,10 @@ mod loss;
 mod show;
 mod walk;
 
-use metering::parse_bytes;
 use metering::Archive;
 use metering::ArchiveFaultDebug;
 use metering::ArchiveFaultDisplay;
+use metering::parse_bytes;
 use std::env;
 use std::error::AnyError;
 use std::fs;

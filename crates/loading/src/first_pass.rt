@@ -1,7 +1,6 @@
 // The rules that each instruction keeps by itself: a known opcode, an operand that fits, an address inside the image.
 ghost use mathlib.Core.Path.{_≡_};
 ghost use Prim.Native.Nat.{_≤_};
-ghost use lib.ListN.{getD};
 ghost use Rattle.opcodes.specs.Families.{takes-address};
 ghost use Rattle.loading.specs.Instructions.{control-of, address, fits, alone};
 use control::Control;
@@ -9,6 +8,7 @@ use control::LoadingCode;
 use opcodes::admits;
 use opcodes::is_known;
 use opcodes::takes_operand;
+use operands::byte_at;
 use operands::decode_operand;
 use records::Layout;
 
@@ -50,12 +50,6 @@ pub fn address_of(bytes: &[u8]) -> u16
     ensures { λ r. ⌜ r ≡ address (now (bytes .entry)) ⌝ }
 {
     byte_at(bytes, 0) as u16 + 256 * byte_at(bytes, 1) as u16
-}
-
-fn byte_at(bytes: &[u8], i: usize) -> u8
-    ensures { λ r. ⌜ r ≡ getD (now (bytes .entry)) i 0 ⌝ }
-{
-    if i < bytes.len() { bytes[i] } else { 0 }
 }
 
 pub fn takes_address(opcode: u8) -> bool

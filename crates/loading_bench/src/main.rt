@@ -21,9 +21,24 @@ fn run(rt: &LibcRuntime) -> Result<(), AnyError> {
     if let Some(word) = env::args(rt)?.nth(1) {
         rounds = word.as_str().parse::<u32>()?;
     }
-    measure(rt, "constants", &filled([0x19, 0xc0, 0x50, 0x23, 0x12]), rounds)?;
-    measure(rt, "fields", &filled([0x1d, 0x40, 0x2c, 0x01, 0x44]), rounds)?;
-    measure(rt, "jumps to the end", &filled([0x33, 0xff, 0x03, 0x00, 0x00]), rounds)
+    measure(
+        rt,
+        "constants",
+        &filled([0x19, 0xc0, 0x50, 0x23, 0x12]),
+        rounds,
+    )?;
+    measure(
+        rt,
+        "fields",
+        &filled([0x1d, 0x40, 0x2c, 0x01, 0x44]),
+        rounds,
+    )?;
+    measure(
+        rt,
+        "jumps to the end",
+        &filled([0x33, 0xff, 0x03, 0x00, 0x00]),
+        rounds,
+    )
 }
 
 // As many of one instruction as fit, and an END.
@@ -40,7 +55,10 @@ fn measure(rt: &LibcRuntime, what: &str, image: &[u8], rounds: u32) -> Result<()
     let mut program = Program::new();
     let verdict = program.load(image, &LAYOUTS);
     match verdict {
-        Verdict::Accepted(Some(bound)) => println!(rt, "{COUNT} {what}: accepted, at most {bound} steps")?,
+        Verdict::Accepted(Some(bound)) => println!(
+            rt,
+            "{COUNT} {what}: accepted, at most {bound} steps"
+        )?,
         _ => println!(rt, "{COUNT} {what}: no bound")?,
     }
     if rounds > 0 {

@@ -3,8 +3,8 @@ use crate::images::CALL;
 use crate::images::END;
 use crate::images::JMP;
 use crate::images::JR;
-use crate::images::NOP;
 use crate::images::NO_LAYOUTS;
+use crate::images::NOP;
 use crate::images::POP;
 use crate::images::PUSH;
 use crate::images::RET;
@@ -40,10 +40,7 @@ fn small_programs(rt: LibcRuntime) -> Result<(), Fail> {
         ),
         (&[(JMP, 2), (NOP, 0), (END, 0)], Some(2)),
         (&[(JR, 2), (NOP, 0), (END, 0)], Some(3)),
-        (
-            &[(JR, 2), (END, 0), (NOP, 0), (NOP, 0), (END, 0)],
-            Some(4),
-        ),
+        (&[(JR, 2), (END, 0), (NOP, 0), (NOP, 0), (END, 0)], Some(4)),
         (&[(JR, 0), (END, 0)], None),
         (&[(NOP, 0), (NOP, 0), (JR, 1), (END, 0)], None),
         // where nobody comes
@@ -54,10 +51,7 @@ fn small_programs(rt: LibcRuntime) -> Result<(), Fail> {
             &[(CALL, 3), (CALL, 3), (END, 0), (NOP, 0), (END, 0)],
             Some(7),
         ),
-        (
-            &[(PUSH, 0), (JR, 3), (NOP, 0), (POP, 0), (END, 0)],
-            Some(5),
-        ),
+        (&[(PUSH, 0), (JR, 3), (NOP, 0), (POP, 0), (END, 0)], Some(5)),
     ];
     for (program, bound) in cases {
         check_accepted(rt.alloc(), program, bound)?;

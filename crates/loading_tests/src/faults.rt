@@ -4,8 +4,8 @@ use crate::images::END;
 use crate::images::JMP;
 use crate::images::JR;
 use crate::images::L;
-use crate::images::NOP;
 use crate::images::NO_LAYOUTS;
+use crate::images::NOP;
 use crate::images::POP;
 use crate::images::PUSH;
 use crate::images::RET;
@@ -159,11 +159,7 @@ fn depths_out_of_range(rt: LibcRuntime) -> Result<(), Fail> {
             LoadingCode::PopAtZero,
             1,
         ),
-        (
-            &[(JR, 2), (POP, 0), (END, 0)],
-            LoadingCode::DepthDiffers,
-            0,
-        ),
+        (&[(JR, 2), (POP, 0), (END, 0)], LoadingCode::DepthDiffers, 0),
         (
             &[(CALL, 3), (END, 0), (POP, 0), (RET, 0)],
             LoadingCode::DepthDiffers,
@@ -215,8 +211,7 @@ fn nine_deep(rt: LibcRuntime) -> Result<(), Fail> {
         check_eq(
             judge_image(&image, &NO_LAYOUTS),
             Verdict::Refused(code, number),
-        )
-        .note(format_args!("to {target}"))?;
+        ).note(format_args!("to {target}"))?;
     }
     Ok(())
 }

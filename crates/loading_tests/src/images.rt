@@ -76,11 +76,7 @@ pub fn check_refused(
     )
 }
 
-pub fn check_accepted(
-    heap: Global,
-    program: &[(u8, u8)],
-    bound: Option<u32>,
-) -> Result<(), Fail> {
+pub fn check_accepted(heap: Global, program: &[(u8, u8)], bound: Option<u32>) -> Result<(), Fail> {
     let image = image_of(heap, program)?;
     check_eq(judge_image(&image, &NO_LAYOUTS), Verdict::Accepted(bound))
 }

@@ -76,8 +76,7 @@ fn families() -> Result<(), Fail> {
             check_eq(
                 admits(opcode, first),
                 column_admitted(family_of(opcode), first),
-            )
-            .note(format_args!("{opcode:02X} {first:02X}"))?;
+            ).note(format_args!("{opcode:02X} {first:02X}"))?;
         }
     }
     Ok(())
@@ -87,9 +86,8 @@ fn families() -> Result<(), Fail> {
 // byte. Constants from C8 on are too large or too small then.
 fn fits(family: Family, first: u8) -> bool {
     match first {
-        0x00 | 0x08 | 0x10 | 0x18 | 0x20 | 0x28 | 0x30 | 0x38..=0x5f | 0xc0..=0xc7 | 0xd0..=0xdf => {
-            column_admitted(family, first)
-        }
+        0x00 | 0x08 | 0x10 | 0x18 | 0x20 | 0x28 | 0x30 | 0x38..=0x5f | 0xc0..=0xc7 | 0xd0..=0xdf =>
+            { column_admitted(family, first) }
         _ => false,
     }
 }
@@ -139,8 +137,9 @@ fn before_the_end() -> Result<(), Fail> {
     for opcode in 0..=255 {
         for first in 0..=255 {
             let image = [opcode, first, 0, 0, 0x41, 0xff, 0, 0, 0, 0];
-            check_eq(judge_image(&image, &layouts), expected(opcode, first))
-                .note(format_args!("{opcode:02X} {first:02X}"))?;
+            check_eq(judge_image(&image, &layouts), expected(opcode, first)).note(format_args!(
+                "{opcode:02X} {first:02X}"
+            ))?;
         }
     }
     Ok(())
@@ -175,8 +174,9 @@ fn after_the_end() -> Result<(), Fail> {
     let layouts = [Layout { length: 1 }; 8];
     for opcode in 0..=255 {
         let image = [0xff, 0, 0, 0, 0, opcode, fitting_byte(opcode), 0, 0, 0x41];
-        check_eq(judge_image(&image, &layouts), expected_as_last(opcode))
-            .note(format_args!("{opcode:02X}"))?;
+        check_eq(judge_image(&image, &layouts), expected_as_last(opcode)).note(format_args!(
+            "{opcode:02X}"
+        ))?;
     }
     Ok(())
 }

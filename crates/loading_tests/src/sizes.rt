@@ -2,8 +2,8 @@
 use crate::images::CALL;
 use crate::images::END;
 use crate::images::JMP;
-use crate::images::NOP;
 use crate::images::NO_LAYOUTS;
+use crate::images::NOP;
 use crate::images::RET;
 use crate::images::append;
 use control::LoadingCode;
@@ -44,13 +44,33 @@ fn whole_instructions_only(rt: LibcRuntime) -> Result<(), Fail> {
 fn longest_programs(rt: LibcRuntime) -> Result<(), Fail> {
     for (first, address, last, expected) in [
         (NOP, 0, END, Verdict::Accepted(Some(1024))),
-        (NOP, 0, NOP, Verdict::Refused(LoadingCode::SectionRunsOn, 1023)),
+        (
+            NOP,
+            0,
+            NOP,
+            Verdict::Refused(LoadingCode::SectionRunsOn, 1023),
+        ),
         (JMP, 1023, END, Verdict::Accepted(Some(2))),
         (JMP, 256, END, Verdict::Accepted(Some(769))),
         (JMP, 1024, END, Verdict::Refused(LoadingCode::BadAddress, 0)),
-        (JMP, 65_535, END, Verdict::Refused(LoadingCode::BadAddress, 0)),
-        (CALL, 1023, RET, Verdict::Refused(LoadingCode::SectionRunsOn, 1022)),
-        (CALL, 1024, RET, Verdict::Refused(LoadingCode::BadAddress, 0)),
+        (
+            JMP,
+            65_535,
+            END,
+            Verdict::Refused(LoadingCode::BadAddress, 0),
+        ),
+        (
+            CALL,
+            1023,
+            RET,
+            Verdict::Refused(LoadingCode::SectionRunsOn, 1022),
+        ),
+        (
+            CALL,
+            1024,
+            RET,
+            Verdict::Refused(LoadingCode::BadAddress, 0),
+        ),
     ] {
         let mut image = Vec::new(rt.alloc());
         append(&mut image, 1, first, address)?;

@@ -5,8 +5,8 @@ mod fault;
 mod record;
 mod transpose;
 
-pub use archive::parse_bytes;
 pub use archive::Archive;
+pub use archive::parse_bytes;
 pub use copy::copy_record;
 pub use fault::ArchiveFault;
 pub use fault::ArchiveFaultDebug;

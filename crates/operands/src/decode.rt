@@ -10,7 +10,7 @@ use crate::part::field_of;
 use crate::part::whole_of;
 use records::Layout;
 
-// The bytes are a part of an image. A byte that is not there is read as 0.
+// The bytes are a part of an image.
 pub fn decode_operand(bytes: &[u8], layouts: &[Layout; 8]) -> Option<Operand>
     ensures { λ r. ⌜ r ≡ operand (now (layouts .entry)) (now (bytes .entry)) ⌝ }
 {
@@ -23,7 +23,8 @@ pub fn decode_operand(bytes: &[u8], layouts: &[Layout; 8]) -> Option<Operand>
     )
 }
 
-fn byte_at(bytes: &[u8], i: usize) -> u8
+// A byte that is not there is read as 0.
+pub fn byte_at(bytes: &[u8], i: usize) -> u8
     ensures { λ r. ⌜ r ≡ getD (now (bytes .entry)) i 0 ⌝ }
 {
     if i < bytes.len() { bytes[i] } else { 0 }

@@ -6,6 +6,7 @@ mod operand;
 mod part;
 
 pub use cell::Cell;
+pub use decode::byte_at;
 pub use decode::decode_operand;
 pub use operand::Field;
 pub use operand::Format;
