@@ -1,6 +1,7 @@
 // Ranks of sections: a call in one of rank 8 is too deep.
 use crate::images::CALL;
 use crate::images::END;
+use crate::images::POP;
 use crate::images::RET;
 use crate::images::check_accepted;
 use crate::images::check_refused;
@@ -45,7 +46,13 @@ fn rank_eight(rt: LibcRuntime) -> Result<(), Fail> {
     // 14 and 05
     let mut back = CHAIN;
     back[16] = (CALL, 16);
-    check_refused(heap, &back, LoadingCode::CallsBack, 16)
+    check_refused(heap, &back, LoadingCode::CallsBack, 16)?;
+    // 05 before a pop at depth 0 that is also the last instruction, and that pop without the 05
+    let mut company = CHAIN;
+    company[18] = (POP, 0);
+    check_refused(heap, &company, LoadingCode::CallTooDeep, 16)?;
+    company[16] = (RET, 0);
+    check_refused(heap, &company, LoadingCode::PopAtZero, 18)
 }
 
 // Section 0 calls 3 and 17. From 3 on a chain of ranks 1 to 7, whose last calls 19; 17, of rank 1, calls 19 too, and 19 calls
