@@ -1,4 +1,6 @@
 // Loads a metering site's loss program, then walks over the site's archive, and prints each step.
+#![tactic(auto)]
+
 mod listing;
 mod loss;
 mod show;

@@ -1,4 +1,6 @@
 // Loading: the verdict on an image, for every byte string and every eight layouts, and the program that it becomes.
+#![tactic(auto)]
+
 mod first_pass;
 mod image;
 mod instruction;

@@ -1,4 +1,6 @@
 // How long loading takes: judges and decodes the longest images. With a number as its argument, it repeats that often and prints the time.
+#![tactic(auto)]
+
 use loading::{Program, Verdict};
 use records::Layout;
 use std::env;

@@ -1,4 +1,6 @@
 // A metering site's archive of half-hour records, and what each step of a walk over it shows.
+#![tactic(auto)]
+
 mod archive;
 mod copy;
 mod fault;

@@ -1,4 +1,6 @@
 // Tests by example of the metering site's archive.
+#![tactic(auto)]
+
 #[cfg(test)]
 mod parsing;
 #[cfg(test)]

@@ -1,4 +1,6 @@
 // Opcodes, and which operands each of them admits.
+#![tactic(auto)]
+
 mod naming;
 mod opcode;
 mod table;

@@ -1,4 +1,6 @@
 // Operands of instructions, decoded from their four bytes.
+#![tactic(auto)]
+
 mod cell;
 mod constant;
 mod decode;

@@ -1,4 +1,6 @@
 // Record sources over a caller's bytes: tables of records that lie row after row, or column after column.
+#![tactic(auto)]
+
 mod column_page;
 mod placement;
 mod refusal;

@@ -1,4 +1,6 @@
 // Tests of record sources and of pages, against cases worked out by hand from the rules of both.
+#![tactic(auto)]
+
 #[cfg(test)]
 mod agreeing;
 #[cfg(test)]

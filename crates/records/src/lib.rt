@@ -1,4 +1,6 @@
 // Recorder records as a program sees them: layouts, the two records of a base, and the sources that answer their bytes.
+#![tactic(auto)]
+
 mod agreement;
 mod joint;
 mod layout;

@@ -1,4 +1,6 @@
 // Judges the control text of a program by the loading rules: the first rule that it breaks, or its step bound.
+#![tactic(auto)]
+
 mod check;
 mod judge;
 mod measure;

@@ -3,4 +3,4 @@ use Rattle.loading.proofs.Worked.{examples}
 use Rattle.examples.proofs.verdicts.call_and_return.Goals as goal
 
 pub returns : goal.returns
-returns c = record { examples = examples; verdict = c.judge-image.ensures.value ∙ examples.call _ }
+returns c = record { examples = examples; verdict = c.judge_image.ensures.value ∙ examples.call _ }

@@ -3,4 +3,4 @@ use Rattle.loading.proofs.Worked.{examples}
 use Rattle.examples.proofs.verdicts.nine_pushes.Goals as goal
 
 pub returns : goal.returns
-returns c = c.judge-image.ensures.value ∙ examples.nine _
+returns c = c.judge_image.ensures.value ∙ examples.nine _

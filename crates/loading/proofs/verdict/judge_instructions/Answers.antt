@@ -38,7 +38,7 @@ returns-in-Err c =
     let image = c.args.image.now in
     let n = c.loop-n.n in
     let broken =
-    alone_err layouts image n c.opcode_at.result c.operand-at.result.now c.opcode_at.ensures c.operand-at.ensures
+    alone_err layouts image n c.opcode_at.result c.operand_at.result.now c.opcode_at.ensures c.operand_at.ensures
     c.in-Err.code c.in-Err.ensures in
     let found = found_here (broken_alone layouts image) n (count image) c.in-Err.code c.loop-n-test.true c.loop-n.invariant.0 broken in
     record {
@@ -53,7 +53,7 @@ loop-n-preserved c =
     let n = c.loop-n.n in
     let s = sized image c.requires in
     let ok =
-    alone_ok c.args.layouts.now image n c.opcode_at.result c.operand-at.result.now c.opcode_at.ensures c.operand-at.ensures
+    alone_ok c.args.layouts.now image n c.opcode_at.result c.operand_at.result.now c.opcode_at.ensures c.operand_at.ensures
     c.in-Ok.kind c.in-Ok.ensures in (
       found_none (broken_alone c.args.layouts.now image) n c.loop-n.invariant.0 ok.0,
       filled_more (kind_at image) Plain c.loop-n.kinds n c.in-Ok.kind (omega (arith, c.loop-n.invariant.2, s.few)) c.loop-n.invariant.1 ok.1,
@@ -70,11 +70,11 @@ returns c =
     let kinds = kinds_are image c.loop-n.kinds c.loop-n.invariant.2 s.few (λ k lt. c.loop-n.invariant.1 k (omega arith)) in
     let part : take (count image - 0) c.loop-n.kinds ≡ text image = ap (λ n. take n c.loop-n.kinds) (sub-zero (count image)) ∙ kinds in
     record {
-      value = c.as-verdict.ensures ∙ (ap from_judgment (c.judge-text.ensures.value ∙ ap judgment part) ∙ verdict_is layouts image s own c.requires);
+      value = c.as_verdict.ensures ∙ (ap from_judgment (c.judge_text.ensures.value ∙ ap judgment part) ∙ verdict_is layouts image s own c.requires);
       says =
-          subst (Says layouts image) (sym c.as-verdict.ensures)
-          (says_image layouts image s own c.requires c.judge-text.result (subst (λ t. judging.Says t c.judge-text.result) part c.judge-text.ensures.says));
+          subst (Says layouts image) (sym c.as_verdict.ensures)
+          (says_image layouts image s own c.requires c.judge_text.result (subst (λ t. judging.Says t c.judge_text.result) part c.judge_text.ensures.says));
       trusted =
-          subst (TrustedImage layouts image) (sym c.as-verdict.ensures)
-          (trusted_image layouts image s own c.judge-text.result (subst (λ t. Trusted t c.judge-text.result) part c.judge-text.ensures.trusted));
+          subst (TrustedImage layouts image) (sym c.as_verdict.ensures)
+          (trusted_image layouts image s own c.judge_text.result (subst (λ t. Trusted t c.judge_text.result) part c.judge_text.ensures.trusted));
     }

@@ -2,8 +2,8 @@ use Rattle.std.proofs.Common.{◌≡◌, ◌<◌, length, ◌∙◌, arith, rule
 use Rattle.metering.proofs.Cutting.{no_word, blank_first, word_first}
 use Rattle.metering.proofs.parts.next_word.Goals as goal
 
-pub returns-then-not-is-empty : goal.returns-then-not-is-empty
-returns-then-not-is-empty c =
+pub returns-then-not-is_empty : goal.returns-then-not-is_empty
+returns-then-not-is_empty c =
     let some : 0 < length c.loop-rest.rest.now = search rules in (
       c.loop-rest.invariant.0 ∙ word_first c.loop-rest.rest.now c.split.result.0.now c.split.result.1.now c.split.ensures some (search rules),
       omega (arith, c.split.ensures.shorter some, c.loop-rest.invariant.1),

@@ -5,4 +5,4 @@ use Rattle.opcodes.proofs.naming.named.Goals as goal
 pub returns : goal.returns
 returns c =
     let inside : c.args.byte < 256 = omega (arith, c.ranges.byte) in
-    name_at _ c.args.byte c.entry-of.result c.entry-of.ensures refl inside
+    name_at _ c.args.byte c.entry_of.result c.entry_of.ensures refl inside

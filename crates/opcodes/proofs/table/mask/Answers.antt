@@ -5,4 +5,4 @@ use Rattle.opcodes.proofs.table.mask.Goals as goal
 pub returns : goal.returns
 returns c =
     let inside : c.args.opcode < 256 = omega (arith, c.ranges.opcode) in
-    row_at _ c.args.opcode c.row-of.result c.row-of.ensures refl inside
+    row_at _ c.args.opcode c.row_of.result c.row_of.ensures refl inside

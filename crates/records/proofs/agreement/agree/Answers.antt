@@ -4,7 +4,7 @@ use Rattle.records.proofs.Sameness.{same_past}
 use Rattle.records.proofs.agreement.agree.Goals as goal
 
 pub loop-base-preserved : goal.loop-base-preserved
-loop-base-preserved g c = below_more _ _ c.loop-base.invariant (c.agree-on-base.ensures.0 c.if-not-agree-on-base.false)
+loop-base-preserved g c = below_more _ _ c.loop-base.invariant (c.agree_on_base.ensures.0 c.if-not-agree_on_base.false)
 
 pub returns : goal.returns
 returns g c = (

@@ -6,5 +6,5 @@ pub returns : goal.returns
 returns g c =
     let alike : c.layout-layout.result.length ≡ c.layout.result.length = search rules in
     decided_by_previous (g.A.Source.keeps c.args.a.now) (g.B.Source.keeps c.args.b.now) c.args.base
-    c.layout-layout.result c.layout.result c.agree-on-record-2.result c.layout-layout.ensures c.layout.ensures
-    alike (c.agree-on-record.ensures.0 c.if-not-agree-on-record.false) c.agree-on-record-2.ensures
+    c.layout-layout.result c.layout.result c.agree_on_record-2.result c.layout-layout.ensures c.layout.ensures
+    alike (c.agree_on_record.ensures.0 c.if-not-agree_on_record.false) c.agree_on_record-2.ensures

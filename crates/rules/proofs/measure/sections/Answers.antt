@@ -9,10 +9,10 @@ loop-i-preserved c =
     let text = c.args.text.now in
     let i = c.loop-i.i in
     let inside : i < 1024 = omega (arith, c.requires.few) in
-    let here : c.section-at-start.result ≡ section text i =
-    c.section-at-start.ensures ∙ section_next text i c.loop-i.start _ (c.requires.marked i inside) c.loop-i.invariant.1 c.loop-i.invariant.2 in (
-      filled_more (section text) 0 c.loop-i.starts i c.section-at-start.result (omega (arith, c.loop-i.invariant.3)) c.loop-i.invariant.0 here,
+    let here : c.section_at-start.result ≡ section text i =
+    c.section_at-start.ensures ∙ section_next text i c.loop-i.start _ (c.requires.marked i inside) c.loop-i.invariant.1 c.loop-i.invariant.2 in (
+      filled_more (section text) 0 c.loop-i.starts i c.section_at-start.result (omega (arith, c.loop-i.invariant.3)) c.loop-i.invariant.0 here,
       (λ n e. here ∙ ap (section text) (omega arith)),
       (λ z. absurd (omega arith)),
-      length-set c.loop-i.starts i c.section-at-start.result ∙ c.loop-i.invariant.3,
+      length-set c.loop-i.starts i c.section_at-start.result ∙ c.loop-i.invariant.3,
     )

@@ -21,7 +21,7 @@ returns-in-Some c =
     let here = c.loop-n-test.true in
     let told =
     told_broken text c.args.marks.now c.args.levels.now c.args.starts.now c.requires.mapped c.requires.inside c.requires.few n here
-    c.loop-n.rank c.address-of-target.result c.is-last.result (c.loop-n.invariant.2 here) c.address-of-target.ensures c.is-last.ensures in
+    c.loop-n.rank c.address_of-target.result c.is_last.result (c.loop-n.invariant.2 here) c.address_of-target.ensures c.is_last.ensures in
     sym (found_here (broken text) n _ c.in-Some.code here c.loop-n.invariant.0 (sym told ∙ sym c.in-Some.ensures))
 
 pub ask-requires : goal.ask-requires
@@ -42,7 +42,7 @@ loop-n-preserved c =
     let at_hand = c.loop-n.invariant.2 here in
     let told =
     told_broken text c.args.marks.now c.args.levels.now c.args.starts.now c.requires.mapped c.requires.inside c.requires.few n here
-    c.loop-n.rank c.address-of-target.result c.is-last.result at_hand c.address-of-target.ensures c.is-last.ensures in
+    c.loop-n.rank c.address_of-target.result c.is_last.result at_hand c.address_of-target.ensures c.is_last.ensures in
     let asked : (s : ℕ) → s < 1024 → get_or c.ask.new.asked s 0 ≡ (ranks text (n + 1)).asked s =
     λ s h.
     c.ask.ensures s h
@@ -53,5 +53,5 @@ loop-n-preserved c =
       λ lt.
           let small : n + 1 < 1024 = omega (arith, c.requires.few) in
           told_rank text c.args.marks.now c.args.levels.now c.args.starts.now c.requires.mapped c.requires.inside c.requires.few n here
-          (get_or c.ask.new.asked (n + 1) 0) c.loop-n.rank c.rank-at-rank.result lt at_hand (asked (n + 1) small) (c.rank-at-rank.ensures small),
+          (get_or c.ask.new.asked (n + 1) 0) c.loop-n.rank c.rank_at-rank.result lt at_hand (asked (n + 1) small) (c.rank_at-rank.ensures small),
     )

@@ -10,5 +10,5 @@ loop-i-init c = loops_start c.args.text.now
 pub loop-i-preserved : goal.loop-i-preserved
 loop-i-preserved c =
     c.either-found.ensures
-    ∙ (ap (λ b. b || c.goes-back.result) c.loop-i.invariant
-    ∙ (ap (λ b. loops c.args.text.now c.loop-i.i || b) c.goes-back.ensures ∙ loops_next c.args.text.now c.loop-i.i))
+    ∙ (ap (λ b. b || c.goes_back.result) c.loop-i.invariant
+    ∙ (ap (λ b. loops c.args.text.now c.loop-i.i || b) c.goes_back.ensures ∙ loops_next c.args.text.now c.loop-i.i))

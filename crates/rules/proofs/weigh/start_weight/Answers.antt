@@ -22,13 +22,13 @@ loop-i-preserved c =
     let back : c.loop-i.i ≡ i + 1 = omega arith in
     let below : i < length text = omega arith in
     let there = c.requires.inside i below in
-    let far : c.max.result ≡ max (address (at text i)) (i + 1) = c.max.ensures ∙ ap (λ a. max a (i + 1)) c.address-of.ensures in
+    let far : c.max.result ≡ max (address (at text i)) (i + 1) = c.max.ensures ∙ ap (λ a. max a (i + 1)) c.address_of.ensures in
     let target : get_or c.loop-i.weights c.max.result 0 ≡ capped (weight text (max (address (at text i)) (i + 1))) =
     c.loop-i.invariant.0 c.max.result (omega (arith, c.max.ensures)) (omega (arith, far, there)) ∙ ap (λ m. capped (weight text m)) far in
     let next : c.loop-i.next ≡ capped (weight text (i + 1)) = c.loop-i.invariant.1 ∙ ap (λ m. capped (weight text m)) back in
-    let here = weight_back text i _ c.loop-i.next c.capped-weight-next.result below target next c.capped-weight-next.ensures in (
-      filled_back (λ m. capped (weight text m)) c.loop-i.weights i c.capped-weight-next.result 1024 (omega (arith, c.loop-i.invariant.2))
+    let here = weight_back text i _ c.loop-i.next c.capped_weight-next.result below target next c.capped_weight-next.ensures in (
+      filled_back (λ m. capped (weight text m)) c.loop-i.weights i c.capped_weight-next.result 1024 (omega (arith, c.loop-i.invariant.2))
           (λ m lo hi. c.loop-i.invariant.0 m (omega arith) hi) here,
       here,
-      length-set c.loop-i.weights i c.capped-weight-next.result ∙ c.loop-i.invariant.2,
+      length-set c.loop-i.weights i c.capped_weight-next.result ∙ c.loop-i.invariant.2,
     )
