@@ -6,7 +6,7 @@ use Rattle.metering.proofs.transpose.columns.Goals as goal
 
 pub loop-offset-preserved : goal.loop-offset-preserved
 loop-offset-preserved c =
-    columns_more (column_bytes c.args.rows.now c.args.length) _ _ c.loop-offset.offset c.loop-offset.invariant c.in-ok-push_column.ensures
+    columns_more (column_bytes c.args.rows.now c.args.length) _ _ c.loop-offset.offset c.loop-offset.invariant c.in_ok-push_column.ensures
 
 pub returns : goal.returns
 returns c =

@@ -18,4 +18,4 @@ bounds-rows-row c = row_inside (length c.args.rows.now) c.args.width c.loop-row.
 pub loop-row-preserved : goal.loop-row-preserved
 loop-row-preserved c =
     column_more (λ k. get_or c.args.rows.now (k * c.args.width + c.args.offset) 0) _ _ _ c.loop-row.row c.loop-row.invariant
-    c.in-ok-push.ensures.items
+    c.in_ok-push.ensures.items

@@ -48,7 +48,7 @@ loop-n-preserved c =
     c.ask.ensures s h
     ∙ (ap (λ r. cond (calls (at text n) s) (max (get_or c.loop-n.asked s 0) (1 + r)) (get_or c.loop-n.asked s 0)) at_hand
     ∙ asked_next text n s (get_or c.loop-n.asked s 0) (c.loop-n.invariant.1 s h)) in (
-      found_none (broken text) n c.loop-n.invariant.0 (sym told ∙ sym c.in-default.ensures),
+      found_none (broken text) n c.loop-n.invariant.0 (sym told ∙ sym c.in_default.ensures),
       asked,
       λ lt.
           let small : n + 1 < 1024 = omega (arith, c.requires.few) in

@@ -5,8 +5,8 @@ use Rattle.pages.proofs.Writing.{rows_read}
 use Rattle.pages.proofs.Changing.{placing, place_keeps}
 use Rattle.pages.proofs.row_page.RowPage.place.Goals as goal
 
-pub invariant-of-self : goal.invariant-of-self
-invariant-of-self c =
+pub invariant_of-self : goal.invariant_of-self
+invariant_of-self c =
     place_keeps (length c.args.self.now.bytes.now) c.args.self.now.bases c.place.new.bases c.args.base
     c.args.self.now.eight c.args.self.now.held c.args.at c.place.ensures.after
 

@@ -5,8 +5,8 @@ use Rattle.pages.proofs.Writing.{rows_read}
 use Rattle.pages.proofs.Changing.{turning, turn_keeps}
 use Rattle.pages.proofs.row_page.RowPage.turn.Goals as goal
 
-pub invariant-of-self : goal.invariant-of-self
-invariant-of-self c =
+pub invariant_of-self : goal.invariant_of-self
+invariant_of-self c =
     turn_keeps (length c.args.self.now.bytes.now) c.args.self.now.bases c.turn.new.bases c.args.base
     c.args.self.now.eight c.args.self.now.held c.args.row c.turn.ensures.after
 
