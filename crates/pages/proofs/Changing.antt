@@ -147,8 +147,9 @@ turned_held capacity ps b r all =
     (λ _. all)
 
 -- the two facts that a page keeps, after either call
-abbrev pub Keeps : ℕ → List Placement → Type 0
-Keeps capacity ps = (length ps ≡ 8) × (AllHeld capacity ps × Unit {0})
+pub record Keeps (capacity : ℕ) (ps : List Placement) : Type 0 where
+  pub eight : length ps ≡ 8
+  pub held : AllHeld capacity ps
 
 eight_by : (t : Bool) (ps : List Placement) (b : ℕ) (p : Placement) → length ps ≡ 8 → length (cond t (set ps b p) ps) ≡ 8
 eight_by true ps b p e = length-set ps b p ∙ e
@@ -157,11 +158,12 @@ eight_by false ps b p e = e
 module _ (capacity : ℕ) (before after : List Placement) (b : ℕ) (eight : length before ≡ 8) (all : AllHeld capacity before) where
   pub place_keeps : (p : Placement) → after ≡ cond (placeable capacity b p) (placed before b p) before → Keeps capacity after
   place_keeps p e =
-      subst (Keeps capacity) (sym e) (eight_by (placeable capacity b p) before b p eight, (placed_held capacity before b p all, tt))
+      subst (Keeps capacity) (sym e) (record { eight = eight_by (placeable capacity b p) before b p eight; held = placed_held capacity before b p all })
 
   pub turn_keeps : (r : ℕ) → after ≡ cond (turnable before b r) (turned before b r) before → Keeps capacity after
   turn_keeps r e =
-      subst (Keeps capacity) (sym e) (eight_by (turnable before b r) before b (at_row (placement before b) r) eight, (turned_held capacity before b r all, tt))
+      subst (Keeps capacity) (sym e)
+      (record { eight = eight_by (turnable before b r) before b (at_row (placement before b) r) eight; held = turned_held capacity before b r all })
 
 -- a row page and a column page over transposed tables
 pub alike : (cs : List ℕ) (ps : List Placement) → AllHeld (length cs) ps → Alike cs ps

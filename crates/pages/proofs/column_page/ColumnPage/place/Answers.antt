@@ -7,8 +7,9 @@ use Rattle.pages.proofs.column_page.ColumnPage.place.Goals as goal
 
 pub invariant_of-self : goal.invariant_of-self
 invariant_of-self c =
-    place_keeps (length c.args.self.now.bytes.now) c.args.self.now.bases c.place.new.bases c.args.base
-    c.args.self.now.eight c.args.self.now.held c.args.at c.place.ensures.after
+    let k = place_keeps (length c.args.self.now.bytes.now) c.args.self.now.bases c.place.new.bases c.args.base
+    c.args.self.now.eight c.args.self.now.held c.args.at c.place.ensures.after in
+    record { eight = k.eight; held = k.held }
 
 pub returns : goal.returns
 returns c = record {
@@ -17,5 +18,5 @@ returns c = record {
       c.args.self.now.eight c.args.base c.args.at c.place.result c.place.ensures.answer c.place.ensures.after;
   transposed = alike c.args.self.now.bytes.now c.place.new.bases
       (place_keeps (length c.args.self.now.bytes.now) c.args.self.now.bases c.place.new.bases c.args.base
-      c.args.self.now.eight c.args.self.now.held c.args.at c.place.ensures.after).1.0;
+      c.args.self.now.eight c.args.self.now.held c.args.at c.place.ensures.after).held;
 }

@@ -7,8 +7,9 @@ use Rattle.pages.proofs.column_page.ColumnPage.turn.Goals as goal
 
 pub invariant_of-self : goal.invariant_of-self
 invariant_of-self c =
-    turn_keeps (length c.args.self.now.bytes.now) c.args.self.now.bases c.turn.new.bases c.args.base
-    c.args.self.now.eight c.args.self.now.held c.args.row c.turn.ensures.after
+    let k = turn_keeps (length c.args.self.now.bytes.now) c.args.self.now.bases c.turn.new.bases c.args.base
+    c.args.self.now.eight c.args.self.now.held c.args.row c.turn.ensures.after in
+    record { eight = k.eight; held = k.held }
 
 pub returns : goal.returns
 returns c = record {
@@ -17,5 +18,5 @@ returns c = record {
       c.args.self.now.eight c.args.base c.args.row c.turn.result c.turn.ensures.answer c.turn.ensures.after;
   transposed = alike c.args.self.now.bytes.now c.turn.new.bases
       (turn_keeps (length c.args.self.now.bytes.now) c.args.self.now.bases c.turn.new.bases c.args.base
-      c.args.self.now.eight c.args.self.now.held c.args.row c.turn.ensures.after).1.0;
+      c.args.self.now.eight c.args.self.now.held c.args.row c.turn.ensures.after).held;
 }

@@ -7,8 +7,9 @@ use Rattle.pages.proofs.row_page.RowPage.place.Goals as goal
 
 pub invariant_of-self : goal.invariant_of-self
 invariant_of-self c =
-    place_keeps (length c.args.self.now.bytes.now) c.args.self.now.bases c.place.new.bases c.args.base
-    c.args.self.now.eight c.args.self.now.held c.args.at c.place.ensures.after
+    let k = place_keeps (length c.args.self.now.bytes.now) c.args.self.now.bases c.place.new.bases c.args.base
+    c.args.self.now.eight c.args.self.now.held c.args.at c.place.ensures.after in
+    record { eight = k.eight; held = k.held }
 
 pub returns : goal.returns
 returns c = record {
