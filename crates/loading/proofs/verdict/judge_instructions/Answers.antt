@@ -26,8 +26,8 @@ bounds-kinds-n c =
     let s = sized c.args.image.now c.requires in
     omega (arith, s.few)
 
-pub overflow-cast-result : goal.overflow-cast-result
-overflow-cast-result c =
+pub overflow_cast-result : goal.overflow_cast-result
+overflow_cast-result c =
     let s = sized c.args.image.now c.requires in
     let small : c.loop-n.n < 1024 = omega (arith, s.few) in
     search rules

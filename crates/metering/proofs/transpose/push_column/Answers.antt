@@ -2,13 +2,13 @@ use Rattle.std.proofs.Common.{◌+◌, ◌*◌, length, get_or, rules}
 use Rattle.metering.proofs.Turning.{row_inside, column_more}
 use Rattle.metering.proofs.transpose.push_column.Goals as goal
 
-pub overflow-mul-row : goal.overflow-mul-row
-overflow-mul-row c =
+pub overflow_mul-row : goal.overflow_mul-row
+overflow_mul-row c =
     let inside = row_inside (length c.args.rows.now) c.args.width c.loop-row.row c.args.offset c.requires c.loop-row-test.true in
     search rules
 
-pub overflow-add-row : goal.overflow-add-row
-overflow-add-row c =
+pub overflow_add-row : goal.overflow_add-row
+overflow_add-row c =
     let inside = row_inside (length c.args.rows.now) c.args.width c.loop-row.row c.args.offset c.requires c.loop-row-test.true in
     search rules
 

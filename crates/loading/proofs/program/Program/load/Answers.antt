@@ -10,8 +10,8 @@ fill-requires c =
     let s = sized image (accepted_lawful c.args.layouts.now image c.in-Accepted.bound c.in-Accepted.ensures.value) in
     record { few = s.few; all = omega arith }
 
-pub overflow-cast-self : goal.overflow-cast-self
-overflow-cast-self c =
+pub overflow_cast-self : goal.overflow_cast-self
+overflow_cast-self c =
     let image = c.args.image.now in
     let s = sized image (accepted_lawful c.args.layouts.now image c.in-Accepted.bound c.in-Accepted.ensures.value) in
     let small : count image ≤ 1024 = s.few in
