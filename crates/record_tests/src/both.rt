@@ -1,7 +1,7 @@
 // A row page and a column page that are asked the same.
 use crate::expected::{check_base, check_only};
 use pages::{ColumnPage, Placement, Refusal, RowPage};
-use std::test::*;
+use std::process::Abort;
 
 #[derive(Drop)]
 pub struct Both<'a> {
@@ -18,32 +18,40 @@ impl<'a> Both<'a> {
     }
 
     // Both pages give this answer: 0 where they take the placement, else the refusal's number.
-    pub fn place(&mut self, base: u8, placement: Placement, answer: u8) -> Result<(), Fail> {
-        assert_eq!(number(self.rows.place(base, placement)), answer, "in rows");
-        assert_eq!(
-            number(self.columns.place(base, placement)),
+    pub fn place(&mut self, rt: &impl Abort, base: u8, placement: Placement, answer: u8) {
+        let in_rows = number(self.rows.place(base, placement));
+        assert_eq!(rt;
+            in_rows,
             answer,
-            "in columns"
+            "in rows, at base {base}, length {}, start {}, {} rows, row {}",
+            placement.layout.length, placement.start, placement.rows, placement.row
         );
-        Ok(())
+        let in_columns = number(self.columns.place(base, placement));
+        assert_eq!(rt;
+            in_columns,
+            answer,
+            "in columns, at base {base}, length {}, start {}, {} rows, row {}",
+            placement.layout.length, placement.start, placement.rows, placement.row
+        );
     }
 
-    pub fn turn(&mut self, base: u8, row: u32, answer: u8) -> Result<(), Fail> {
-        assert_eq!(number(self.rows.turn(base, row)), answer, "in rows");
-        assert_eq!(number(self.columns.turn(base, row)), answer, "in columns");
-        Ok(())
+    pub fn turn(&mut self, rt: &impl Abort, base: u8, row: u32, answer: u8) {
+        let in_rows = number(self.rows.turn(base, row));
+        assert_eq!(rt; in_rows, answer, "in rows, at base {base}, row {row}");
+        let in_columns = number(self.columns.turn(base, row));
+        assert_eq!(rt; in_columns, answer, "in columns, at base {base}, row {row}");
     }
 
     // Both pages show these records.
-    pub fn check_base(&self, base: u8, current: &[u8], previous: &[u8]) -> Result<(), Fail> {
-        check_base(&self.rows, base, current, previous).note("in rows")?;
-        check_base(&self.columns, base, current, previous).note("in columns")
+    pub fn check_base(&self, rt: &impl Abort, base: u8, current: &[u8], previous: &[u8]) {
+        check_base(rt, "in rows", &self.rows, base, current, previous);
+        check_base(rt, "in columns", &self.columns, base, current, previous);
     }
 
     // No other base is there in either.
-    pub fn check_only(&self, present: u8) -> Result<(), Fail> {
-        check_only(&self.rows, present).note("in rows")?;
-        check_only(&self.columns, present).note("in columns")
+    pub fn check_only(&self, rt: &impl Abort, present: u8) {
+        check_only(rt, "in rows", &self.rows, present);
+        check_only(rt, "in columns", &self.columns, present);
     }
 }
 

@@ -1,50 +1,56 @@
 // What the tests expect of a source.
 use records::{Record, Source};
 use std::alloc::{AllocError, Global};
-use std::test::*;
+use std::process::Abort;
 
 // Both records of a base, each given to its last byte and no further. An absent base has none.
 pub fn check_base<S: Source>(
+    rt: &impl Abort,
+    place: &str,
     source: &S,
     base: u8,
     current: &[u8],
     previous: &[u8],
-) -> Result<(), Fail> {
-    assert_eq!(
-        source.layout(base).length as usize,
-        current.len(),
-        "length of base {base}"
-    );
-    check_record(source, base, Record::Current, current).note("in the current record")?;
-    check_record(source, base, Record::Previous, previous).note("in the previous record")
+) {
+    let length = source.layout(base).length as usize;
+    assert_eq!(rt; length, current.len(), "{place}, length of base {base}");
+    check_record(rt, place, source, base, Record::Current, current);
+    check_record(rt, place, source, base, Record::Previous, previous);
 }
 
-fn check_record<S: Source>(source: &S, base: u8, which: Record, bytes: &[u8]) -> Result<(), Fail> {
+fn check_record<S: Source>(
+    rt: &impl Abort,
+    place: &str,
+    source: &S,
+    base: u8,
+    which: Record,
+    bytes: &[u8],
+) {
     for offset in 0..bytes.len() {
-        assert_eq!(
-            source.byte(base, which, offset),
+        let byte = source.byte(base, which, offset);
+        assert_eq!(rt;
+            byte,
             Some(bytes[offset]),
-            "base {base}, offset {offset}"
+            "{place}, {which:?} record of base {base}, offset {offset}"
         );
     }
     for offset in [bytes.len(), usize::MAX] {
-        assert_eq!(
-            source.byte(base, which, offset),
+        let byte = source.byte(base, which, offset);
+        assert_eq!(rt;
+            byte,
             None,
-            "base {base}, offset {offset}"
+            "{place}, {which:?} record of base {base}, offset {offset}"
         );
     }
-    Ok(())
 }
 
 // Every base but this one is absent.
-pub fn check_only<S: Source>(source: &S, present: u8) -> Result<(), Fail> {
+pub fn check_only<S: Source>(rt: &impl Abort, place: &str, source: &S, present: u8) {
     for base in 0..=255 {
         if base != present {
-            check_base(source, base, &[], &[])?;
+            check_base(rt, place, source, base, &[], &[]);
         }
     }
-    Ok(())
 }
 
 // Byte i is the rest of i by 251.

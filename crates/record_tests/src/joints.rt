@@ -21,19 +21,34 @@ const NARROW: Placement = Placement {
 };
 
 #[test]
-fn current_of_the_first_previous_of_the_second() -> Result<(), Fail> {
+fn current_of_the_first_previous_of_the_second(rt: HostRuntime) -> Result<(), Fail> {
     let mut a = RowPage::new(&[10, 11, 12, 13]);
     let mut b = ColumnPage::new(&[20, 21, 22, 23]);
     a.place(5, TWO_ROWS)?;
     b.place(5, TWO_ROWS)?;
-    check_base(&Joint::new(&a, &b), 5, &[12, 13], &[20, 22])?;
-    check_base(&Joint::new(&b, &a), 5, &[21, 23], &[10, 11])?;
-    check_only(&Joint::new(a, b), 5)
+    check_base(
+        &rt,
+        "in the joint",
+        &Joint::new(&a, &b),
+        5,
+        &[12, 13],
+        &[20, 22],
+    );
+    check_base(
+        &rt,
+        "in the joint",
+        &Joint::new(&b, &a),
+        5,
+        &[21, 23],
+        &[10, 11],
+    );
+    check_only(&rt, "in the joint", &Joint::new(a, b), 5);
+    Ok(())
 }
 
 // Base 0 is alike, base 1 longer in one, and bases 2 and 7 absent in one.
 #[test]
-fn differing_layouts_are_absent() -> Result<(), Fail> {
+fn differing_layouts_are_absent(rt: HostRuntime) -> Result<(), Fail> {
     let mut a = RowPage::new(&[10, 11, 12, 13]);
     a.place(0, TWO_ROWS)?;
     a.place(1, TWO_ROWS)?;
@@ -43,14 +58,15 @@ fn differing_layouts_are_absent() -> Result<(), Fail> {
     b.place(1, NARROW)?;
     b.place(7, TWO_ROWS)?;
     let joint = Joint::new(&a, &b);
-    check_base(&joint, 0, &[12, 13], &[20, 21])?;
-    check_only(&joint, 0)?;
-    check_only(&Joint::new(&b, &a), 0)
+    check_base(&rt, "in the joint", &joint, 0, &[12, 13], &[20, 21]);
+    check_only(&rt, "in the joint", &joint, 0);
+    check_only(&rt, "in the joint", &Joint::new(&b, &a), 0);
+    Ok(())
 }
 
 // Base 1 differs within the first joint, and base 2 between the two.
 #[test]
-fn joints_of_joints() -> Result<(), Fail> {
+fn joints_of_joints(rt: HostRuntime) -> Result<(), Fail> {
     let mut a = RowPage::new(&[10, 11, 12, 13]);
     let mut b = RowPage::new(&[20, 21, 22, 23]);
     let mut c = RowPage::new(&[30, 31, 32, 33]);
@@ -64,8 +80,9 @@ fn joints_of_joints() -> Result<(), Fail> {
         c.place(base, in_c)?;
     }
     let joint = Joint::new(Joint::new(&a, &b), Joint::new(&b, &c));
-    check_base(&joint, 0, &[12, 13], &[30, 31])?;
-    check_only(&joint, 0)
+    check_base(&rt, "in the joint", &joint, 0, &[12, 13], &[30, 31]);
+    check_only(&rt, "in the joint", &joint, 0);
+    Ok(())
 }
 
 #[test]
@@ -74,8 +91,8 @@ fn a_joint_of_one_source_is_that_source(rt: HostRuntime) -> Result<(), Fail> {
     a.place(0, TWO_ROWS)?;
     a.place(7, NARROW)?;
     let joint = Joint::new(&a, &a);
-    check_base(&joint, 0, &[12, 13], &[10, 11])?;
-    check_base(&joint, 7, &[11], &[10])?;
+    check_base(&rt, "in the joint", &joint, 0, &[12, 13], &[10, 11]);
+    check_base(&rt, "in the joint", &joint, 7, &[11], &[10]);
     assert!(rt; agree(&joint, &a));
     Ok(())
 }

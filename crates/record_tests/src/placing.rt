@@ -7,27 +7,20 @@ use std::process::Abort;
 use std::test::*;
 
 // New pages give this answer, and have the layout afterwards if and only if it is 0.
-fn check_placing(
-    rt: &impl Abort,
-    bytes: &[u8],
-    base: u8,
-    placement: Placement,
-    answer: u8,
-) -> Result<(), Fail> {
+fn check_placing(rt: &impl Abort, bytes: &[u8], base: u8, placement: Placement, answer: u8) {
     let length = if answer == 0 {
         placement.layout.length
     } else {
         0
     };
     let mut pages = Both::new(bytes, bytes);
-    pages.place(base, placement, answer)?;
+    pages.place(rt, base, placement, answer);
     assert_eq!(rt; pages.rows.layout(base).length, length);
     assert_eq!(rt; pages.columns.layout(base).length, length);
-    Ok(())
 }
 
 #[test]
-fn bases_0_to_7(rt: HostRuntime) -> Result<(), Fail> {
+fn bases_0_to_7(rt: HostRuntime) {
     let placement = Placement {
         layout: Layout { length: 4 },
         start: 0,
@@ -35,9 +28,8 @@ fn bases_0_to_7(rt: HostRuntime) -> Result<(), Fail> {
         row: 1,
     };
     for (base, answer) in [(0, 0), (7, 0), (8, 9), (255, 9)] {
-        check_placing(&rt, &[0; 8], base, placement, answer).note(format_args!("base {base}"))?;
+        check_placing(&rt, &[0; 8], base, placement, answer);
     }
-    Ok(())
 }
 
 // The bytes suffice in every case, so the length alone decides.
@@ -51,7 +43,7 @@ fn lengths_1_to_512(rt: HostRuntime) -> Result<(), Fail> {
             rows: 2,
             row: 1,
         };
-        check_placing(&rt, &bytes, 0, placement, answer).note(format_args!("length {length}"))?;
+        check_placing(&rt, &bytes, 0, placement, answer);
     }
     Ok(())
 }
@@ -82,9 +74,7 @@ fn rows_2_to_65535_and_row_1_to_the_last(rt: HostRuntime) -> Result<(), Fail> {
             rows,
             row,
         };
-        check_placing(&rt, &bytes, 7, placement, answer).note(format_args!(
-            "{rows} rows, row {row}"
-        ))?;
+        check_placing(&rt, &bytes, 7, placement, answer);
     }
     Ok(())
 }
@@ -116,15 +106,13 @@ fn rows_end_within_the_bytes(rt: HostRuntime) -> Result<(), Fail> {
             rows,
             row: 1,
         };
-        check_placing(&rt, &bytes, 0, placement, answer).note(format_args!(
-            "length {length}, start {start}, {rows} rows"
-        ))?;
+        check_placing(&rt, &bytes, 0, placement, answer);
     }
     Ok(())
 }
 
 #[test]
-fn few_bytes(rt: HostRuntime) -> Result<(), Fail> {
+fn few_bytes(rt: HostRuntime) {
     let cases: [(&[u8], usize, u8); 6] = [
         (&[], 0, 9),
         (&[], usize::MAX, 9),
@@ -140,12 +128,8 @@ fn few_bytes(rt: HostRuntime) -> Result<(), Fail> {
             rows: 2,
             row: 1,
         };
-        check_placing(&rt, bytes, 0, placement, answer).note(format_args!(
-            "{} bytes, start {start}",
-            bytes.len()
-        ))?;
+        check_placing(&rt, bytes, 0, placement, answer);
     }
-    Ok(())
 }
 
 // Four rows of one byte, and after them two rows of three, by rows and by columns.
@@ -168,9 +152,9 @@ const WIDE: Placement = Placement {
 };
 
 #[test]
-fn refused_placements_leave_all_as_it_was() -> Result<(), Fail> {
+fn refused_placements_leave_all_as_it_was(rt: HostRuntime) {
     let mut pages = Both::new(&BY_ROWS, &BY_COLUMNS);
-    pages.place(3, WIDE, 0)?;
+    pages.place(&rt, 3, WIDE, 0);
     for (base, length, start, rows, row) in [
         (3, 0, 0, 2, 1),
         (3, 513, 0, 2, 1),
@@ -190,23 +174,22 @@ fn refused_placements_leave_all_as_it_was() -> Result<(), Fail> {
             rows,
             row,
         };
-        pages.place(base, placement, 9)?;
-        pages.check_base(3, &[20, 21, 22], &[10, 11, 12])?;
-        pages.check_only(3)?;
+        pages.place(&rt, base, placement, 9);
+        pages.check_base(&rt, 3, &[20, 21, 22], &[10, 11, 12]);
+        pages.check_only(&rt, 3);
     }
-    Ok(())
 }
 
 // A placement takes the place of the one before it, be it longer or shorter, and of no other base's.
 #[test]
-fn placed_again() -> Result<(), Fail> {
+fn placed_again(rt: HostRuntime) {
     let mut pages = Both::new(&BY_ROWS, &BY_COLUMNS);
-    pages.place(2, NARROW, 0)?;
-    pages.place(5, NARROW, 0)?;
-    pages.place(2, WIDE, 0)?;
-    pages.check_base(2, &[20, 21, 22], &[10, 11, 12])?;
-    pages.check_base(5, &[3], &[2])?;
-    pages.place(2, NARROW, 0)?;
-    pages.check_base(2, &[3], &[2])?;
-    pages.check_base(5, &[3], &[2])
+    pages.place(&rt, 2, NARROW, 0);
+    pages.place(&rt, 5, NARROW, 0);
+    pages.place(&rt, 2, WIDE, 0);
+    pages.check_base(&rt, 2, &[20, 21, 22], &[10, 11, 12]);
+    pages.check_base(&rt, 5, &[3], &[2]);
+    pages.place(&rt, 2, NARROW, 0);
+    pages.check_base(&rt, 2, &[3], &[2]);
+    pages.check_base(&rt, 5, &[3], &[2]);
 }

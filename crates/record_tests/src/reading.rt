@@ -10,15 +10,15 @@ use std::test::*;
 const LETTERS: &[u8; 24] = b"ABCDEFGHIJKLMNOPQRSTUVWX";
 
 #[test]
-fn new_pages_are_absent() -> Result<(), Fail> {
+fn new_pages_are_absent(rt: HostRuntime) {
     let pages = Both::new(LETTERS, LETTERS);
-    pages.check_base(0, &[], &[])?;
-    pages.check_only(0)
+    pages.check_base(&rt, 0, &[], &[]);
+    pages.check_only(&rt, 0);
 }
 
 // Base 0 lies inside the bytes, base 1 has one byte to a row, base 6 takes all the bytes, and base 7 ends with them.
 #[test]
-fn by_rows_and_by_columns() -> Result<(), Fail> {
+fn by_rows_and_by_columns(rt: HostRuntime) {
     let mut pages = Both::new(LETTERS, LETTERS);
     for (base, length, start, rows, row) in [
         (0, 3, 2, 4, 2),
@@ -32,21 +32,35 @@ fn by_rows_and_by_columns() -> Result<(), Fail> {
             rows,
             row,
         };
-        pages.place(base, placement, 0)?;
+        pages.place(&rt, base, placement, 0);
     }
-    check_base(&pages.rows, 0, b"IJK", b"FGH")?;
-    check_base(&pages.rows, 1, b"V", b"U")?;
-    check_base(&pages.rows, 6, b"MNOPQRSTUVWX", b"ABCDEFGHIJKL")?;
-    check_base(&pages.rows, 7, b"TUVWX", b"OPQRS")?;
-    check_base(&pages.columns, 0, b"EIM", b"DHL")?;
-    check_base(&pages.columns, 1, b"V", b"U")?;
-    check_base(&pages.columns, 6, b"BDFHJLNPRTVX", b"ACEGIKMOQSUW")?;
-    check_base(&pages.columns, 7, b"HLPTX", b"GKOSW")
+    check_base(&rt, "in rows", &pages.rows, 0, b"IJK", b"FGH");
+    check_base(&rt, "in rows", &pages.rows, 1, b"V", b"U");
+    check_base(
+        &rt,
+        "in rows",
+        &pages.rows,
+        6,
+        b"MNOPQRSTUVWX",
+        b"ABCDEFGHIJKL",
+    );
+    check_base(&rt, "in rows", &pages.rows, 7, b"TUVWX", b"OPQRS");
+    check_base(&rt, "in columns", &pages.columns, 0, b"EIM", b"DHL");
+    check_base(&rt, "in columns", &pages.columns, 1, b"V", b"U");
+    check_base(
+        &rt,
+        "in columns",
+        &pages.columns,
+        6,
+        b"BDFHJLNPRTVX",
+        b"ACEGIKMOQSUW",
+    );
+    check_base(&rt, "in columns", &pages.columns, 7, b"HLPTX", b"GKOSW");
 }
 
 // Base b has the two rows of one byte that begin at 3 * b.
 #[test]
-fn eight_bases() -> Result<(), Fail> {
+fn eight_bases(rt: HostRuntime) {
     let mut pages = Both::new(LETTERS, LETTERS);
     for base in 0..8u8 {
         let placement = Placement {
@@ -55,13 +69,12 @@ fn eight_bases() -> Result<(), Fail> {
             rows: 2,
             row: 1,
         };
-        pages.place(base, placement, 0)?;
+        pages.place(&rt, base, placement, 0);
     }
     for base in 0..8 {
         let first = b'A' + 3 * base;
-        pages.check_base(base, &[first + 1], &[first])?;
+        pages.check_base(&rt, base, &[first + 1], &[first]);
     }
-    Ok(())
 }
 
 #[test]
@@ -74,7 +87,7 @@ fn the_longest_records(rt: HostRuntime) -> Result<(), Fail> {
         row: 1,
     };
     let mut pages = Both::new(&bytes, &bytes);
-    pages.place(0, longest, 0)?;
+    pages.place(&rt, 0, longest, 0);
     check_bytes(
         &rt,
         &pages.rows,
@@ -84,7 +97,7 @@ fn the_longest_records(rt: HostRuntime) -> Result<(), Fail> {
             (511, Some(19), Some(9)),
             (512, None, None),
         ],
-    )?;
+    );
     check_bytes(
         &rt,
         &pages.columns,
@@ -94,7 +107,8 @@ fn the_longest_records(rt: HostRuntime) -> Result<(), Fail> {
             (511, Some(19), Some(18)),
             (512, None, None),
         ],
-    )
+    );
+    Ok(())
 }
 
 // Bytes of base 0 at some offsets, in its current record and in its previous one.
@@ -102,7 +116,7 @@ fn check_bytes<S: Source>(
     rt: &impl Abort,
     source: &S,
     cases: [(usize, Option<u8>, Option<u8>); 4],
-) -> Result<(), Fail> {
+) {
     for (offset, current, previous) in cases {
         assert_eq!(rt;
             source.byte(0, Record::Current, offset),
@@ -115,5 +129,4 @@ fn check_bytes<S: Source>(
             "offset {offset}"
         );
     }
-    Ok(())
 }

@@ -19,9 +19,9 @@ const FOUR_ROWS: Placement = Placement {
 
 // Each case starts from where the one before it ended.
 #[test]
-fn rows_1_to_the_last() -> Result<(), Fail> {
+fn rows_1_to_the_last(rt: HostRuntime) {
     let mut pages = Both::new(&BY_ROWS, &BY_COLUMNS);
-    pages.place(7, FOUR_ROWS, 0)?;
+    pages.place(&rt, 7, FOUR_ROWS, 0);
     let cases: [(u32, u8, &[u8], &[u8]); 7] = [
         (1, 0, &[20, 21], &[10, 11]),
         (0, 9, &[20, 21], &[10, 11]),
@@ -32,48 +32,43 @@ fn rows_1_to_the_last() -> Result<(), Fail> {
         (u32::MAX, 9, &[30, 31], &[20, 21]),
     ];
     for (row, answer, current, previous) in cases {
-        pages.turn(7, row, answer).note(format_args!("row {row}"))?;
-        pages
-            .check_base(7, current, previous)
-            .note(format_args!("row {row}"))?;
-        pages.check_only(7)?;
+        pages.turn(&rt, 7, row, answer);
+        pages.check_base(&rt, 7, current, previous);
+        pages.check_only(&rt, 7);
     }
-    Ok(())
 }
 
 #[test]
-fn absent_bases_cannot_be_turned() -> Result<(), Fail> {
+fn absent_bases_cannot_be_turned(rt: HostRuntime) {
     let mut pages = Both::new(&BY_ROWS, &BY_COLUMNS);
-    pages.place(3, FOUR_ROWS, 0)?;
+    pages.place(&rt, 3, FOUR_ROWS, 0);
     for base in [0, 2, 4, 7, 8, 11, 255] {
         for row in [0, 1, 3, u32::MAX] {
-            pages
-                .turn(base, row, 9)
-                .note(format_args!("base {base}, row {row}"))?;
+            pages.turn(&rt, base, row, 9);
         }
     }
-    pages.check_base(3, &[40, 41], &[30, 31])?;
-    pages.check_only(3)
+    pages.check_base(&rt, 3, &[40, 41], &[30, 31]);
+    pages.check_only(&rt, 3);
 }
 
 // A base turns alone, and by the rows of its latest placement.
 #[test]
-fn one_base_turns() -> Result<(), Fail> {
+fn one_base_turns(rt: HostRuntime) {
     let mut pages = Both::new(&BY_ROWS, &BY_COLUMNS);
-    pages.place(0, FOUR_ROWS, 0)?;
-    pages.place(1, FOUR_ROWS, 0)?;
-    pages.turn(0, 1, 0)?;
-    pages.check_base(0, &[20, 21], &[10, 11])?;
-    pages.check_base(1, &[40, 41], &[30, 31])?;
+    pages.place(&rt, 0, FOUR_ROWS, 0);
+    pages.place(&rt, 1, FOUR_ROWS, 0);
+    pages.turn(&rt, 0, 1, 0);
+    pages.check_base(&rt, 0, &[20, 21], &[10, 11]);
+    pages.check_base(&rt, 1, &[40, 41], &[30, 31]);
     let fewer = Placement {
         layout: Layout { length: 1 },
         start: 0,
         rows: 3,
         row: 1,
     };
-    pages.place(0, fewer, 0)?;
-    pages.turn(0, 3, 9)?;
-    pages.turn(1, 3, 0)
+    pages.place(&rt, 0, fewer, 0);
+    pages.turn(&rt, 0, 3, 9);
+    pages.turn(&rt, 1, 3, 0);
 }
 
 // One byte to a row, so that row k is byte k.
@@ -87,12 +82,13 @@ fn the_most_rows(rt: HostRuntime) -> Result<(), Fail> {
         row: 1,
     };
     let mut pages = Both::new(&bytes, &bytes);
-    pages.place(0, most, 0)?;
-    pages.turn(0, 65_534, 0)?;
-    pages.check_base(0, &[23], &[22])?;
-    pages.turn(0, 65_535, 9)?;
-    pages.turn(0, 65_536, 9)?;
-    pages.check_base(0, &[23], &[22])?;
-    pages.turn(0, 251, 0)?;
-    pages.check_base(0, &[0], &[250])
+    pages.place(&rt, 0, most, 0);
+    pages.turn(&rt, 0, 65_534, 0);
+    pages.check_base(&rt, 0, &[23], &[22]);
+    pages.turn(&rt, 0, 65_535, 9);
+    pages.turn(&rt, 0, 65_536, 9);
+    pages.check_base(&rt, 0, &[23], &[22]);
+    pages.turn(&rt, 0, 251, 0);
+    pages.check_base(&rt, 0, &[0], &[250]);
+    Ok(())
 }
