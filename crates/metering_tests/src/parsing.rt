@@ -82,7 +82,7 @@ fn bytes_stand_in_any_lines(rt: HostRuntime) -> Result<(), Fail> {
     let none = parse_bytes(heap, "# a comment\r\n\r\n")?;
     assert!(rt; none.is_empty());
     let bytes = parse_bytes(heap, "# 0g\r\n\r\n\t0a  fF\r\n\n00")?;
-    assert!(rt; bytes.as_slice() == &[10, 255, 0]);
+    assert!(rt; bytes.as_slice() == [10, 255, 0].as_slice());
     assert_eq!(rt;
         bytes_fault(heap, "00\n\n00 0 0\n#\n0g"),
         Some(ArchiveFault::NotAByte(3))

@@ -53,7 +53,7 @@ fn growths(rt: HostRuntime) {
 #[test]
 fn tables_are_turned(rt: HostRuntime) -> Result<(), Fail> {
     let turned = columns(rt.alloc(), &[1, 2, 3, 4, 5, 6], 3)?;
-    assert!(rt; turned.as_slice() == &[1, 4, 2, 5, 3, 6]);
+    assert!(rt; turned.as_slice() == [1, 4, 2, 5, 3, 6].as_slice());
     let none = columns(rt.alloc(), &[1, 2, 3], 0)?;
     assert!(rt; none.is_empty());
     Ok(())
@@ -71,9 +71,9 @@ fn records_are_copied(rt: HostRuntime) -> Result<(), Fail> {
     };
     page.place(2, at)?;
     let current = copy_record(rt.alloc(), &page, 2, Record::Current)?;
-    assert!(rt; current.as_slice() == &[4, 5, 6]);
+    assert!(rt; current.as_slice() == [4, 5, 6].as_slice());
     let previous = copy_record(rt.alloc(), &page, 2, Record::Previous)?;
-    assert!(rt; previous.as_slice() == &[1, 2, 3]);
+    assert!(rt; previous.as_slice() == [1, 2, 3].as_slice());
     let absent = copy_record(rt.alloc(), &page, 3, Record::Current)?;
     assert!(rt; absent.is_empty());
     Ok(())
