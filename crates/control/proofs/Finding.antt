@@ -2,7 +2,7 @@
 use Rattle.std.proofs.Common.{◌≡◌, ℕ, zero, suc, ◌+◌, ◌-◌, ◌<◌, Some, None, Option, sym, refl, ap, ◌∙◌, ⊎_elim, suc-add, zero-add, add-one, arith}
 use Rattle.std.proofs.lemmas.Bool.{cases_eq}
 use Rattle.control.specs.declared.code.LoadingCode.{LoadingCode}
-use Rattle.control.specs.Rules.{or_else, first_found, FirstAt, Nowhere, Found}
+use Rattle.control.specs.Rules.{or_else, first_found, Found}
 
 module _ (test : ℕ → Option LoadingCode) where
   pub found_start : first_found test 0 ≡ None

@@ -1,12 +1,12 @@
 -- What an instruction that breaks no rule says about where control can go from it.
-use Rattle.std.proofs.Common.{◌≡◌, ℕ, zero, suc, ◌+◌, ◌-◌, ◌<◌, ◌≤◌, max, Bool, true, false, cond, not, ◌&&◌, ◌||◌, eqb, leb, ◌⊎◌, List, [], ◌∷◌, length, get_or, Some, None, Option, sym, refl, ap, ◌∙◌, subst, inl, inr, ⊎_elim, add-one, arith}
-use Rattle.std.proofs.lemmas.Bool.{cases_Bool, cases_eq, eqb-true, eqb-false, leb-false, eq-eqb, or_parts, or_left, or_right, not-false, both_ways, cond-true, cond-false}
+use Rattle.std.proofs.Common.{◌≡◌, ℕ, zero, suc, ◌+◌, ◌<◌, ◌≤◌, max, Bool, true, false, cond, not, eqb, List, [], ◌∷◌, length, Some, None, Option, sym, refl, ap, ◌∙◌, subst, ⊎_elim, add-one, arith}
+use Rattle.std.proofs.lemmas.Bool.{cases_Bool, eqb-true, eqb-false, leb-false, eq-eqb, or_parts, or_left, or_right, not-false, cond-true, cond-false}
 use Rattle.control.specs.declared.code.LoadingCode.{LoadingCode}
 use Rattle.control.specs.declared.control.Control.{Control}
-use Rattle.control.specs.declared.control.Control.TheVariants.{Plain, Push, Pop, JumpIf, Jump, Call, Return, End}
-use Rattle.control.specs.Texts.{at, ground, depth, calls, called, starts, section, Ranks, asked_more, ranks, rank}
-use Rattle.control.specs.Rules.{place, Check, first_of, checks, address, broken, KeepsRules, Inside}
-use Rattle.control.proofs.Sections.{section_begins, section_goes_on, rank_begins, rank_goes_on, asked_by_call, call_from}
+use Rattle.control.specs.declared.control.Control.TheVariants.{Plain, Push, Pop, JumpIf, Jump, Call, Return}
+use Rattle.control.specs.Texts.{at, ground, depth, calls, called, starts, section, asked_more, ranks, rank}
+use Rattle.control.specs.Rules.{place, Check, first_of, checks, address, broken, KeepsRules}
+use Rattle.control.proofs.Sections.{section_goes_on, rank_goes_on, call_from}
 
 -- the checks of an instruction, its kind apart
 abbrev pub judged : Control → List Control → ℕ → Option LoadingCode

@@ -1,14 +1,14 @@
 -- A text that keeps the rules never faults: what holds of the machine at every instruction.
-use Rattle.std.proofs.Common.{◌≡◌, ℕ, zero, suc, ◌+◌, ◌-◌, ◌<◌, ◌≤◌, Bool, true, false, cond, eqb, ltb, ◌⊎◌, List, [], ◌∷◌, length, get_or, Some, None, sym, refl, ap, ◌∙◌, subst, inl, inr, ⊎_elim, add-one, arith}
-use Rattle.std.proofs.lemmas.Bool.{cases_Bool, ne_eqb, lt-ltb, or_right, cond-true, cond-false}
+use Rattle.std.proofs.Common.{◌≡◌, ℕ, zero, suc, ◌+◌, ◌-◌, ◌<◌, ◌≤◌, Bool, true, false, eqb, ltb, List, [], ◌∷◌, length, None, sym, refl, ap, ◌∙◌, subst, add-one, arith}
+use Rattle.std.proofs.lemmas.Bool.{ne_eqb, lt-ltb, or_right, cond-true, cond-false}
 use Rattle.control.specs.declared.control.Control.{Control}
 use Rattle.control.specs.declared.control.Control.TheVariants.{Plain, Push, Pop, JumpIf, Jump, Call, Return, End}
 use Rattle.control.specs.Texts.{at, ground, stacked, depth, called, starts, section, ranks, rank}
-use Rattle.control.specs.Rules.{address, broken, KeepsRules, Inside}
-use Rattle.control.specs.Machine.{State, start, Outcome, Goes, Ends, Faults, goto, back, moved, move, run}
+use Rattle.control.specs.Rules.{address, KeepsRules, Inside}
+use Rattle.control.specs.Machine.{State, start, Outcome, Goes, Ends, Faults, back, moved, move, run}
 use Rattle.control.specs.Promises.{Sound, NeverFaults}
 use Rattle.control.proofs.Sections.{section_begins, rank_begins, rank_by_section, asked_by_call}
-use Rattle.control.proofs.Keeping.{judged, judged_at, Follows, plain_keeps, push_keeps, pop_keeps, jump_if_keeps, jump_keeps, CallsWell, call_keeps, return_keeps, called_by, low_rank}
+use Rattle.control.proofs.Keeping.{judged, judged_at, Follows, plain_keeps, push_keeps, pop_keeps, jump_if_keeps, jump_keeps, call_keeps, return_keeps, called_by, low_rank}
 
 -- the return addresses: each in a caller's section, at depth 0 and of lower rank; none in the first section
 abbrev pub Chain : List Control → ℕ → List ℕ → Type 0

@@ -1,13 +1,13 @@
 -- Weights: each satisfies the equation of its instruction, and no run takes more steps than the weight of its start.
-use Rattle.std.proofs.Common.{◌≡◌, ℕ, zero, suc, ◌+◌, ◌-◌, ◌<◌, ◌≤◌, max, Bool, true, false, cond, ◌||◌, eqb, ltb, leb, ◌⊎◌, List, [], ◌∷◌, length, get_or, drop, Some, None, sym, refl, ap, ◌∙◌, subst, inl, inr, ⊎_elim, suc-add, zero-add, add-one, arith}
+use Rattle.std.proofs.Common.{◌≡◌, ℕ, zero, suc, ◌+◌, ◌-◌, ◌<◌, ◌≤◌, Bool, true, false, cond, eqb, ltb, leb, List, [], ◌∷◌, length, get_or, drop, Some, None, sym, refl, ap, ◌∙◌, subst, ⊎_elim, suc-add, zero-add, arith}
 use Rattle.std.proofs.lemmas.List.{get_or-drop}
-use Rattle.std.proofs.lemmas.Bool.{cases_Bool, cases_eq, or_parts, leb-false, lt-ltb, cond-true, cond-false, both_ways}
+use Rattle.std.proofs.lemmas.Bool.{cases_eq, or_parts, leb-false, lt-ltb, cond-true}
 use Rattle.control.specs.declared.control.Control.{Control}
 use Rattle.control.specs.declared.control.Control.TheVariants.{Plain, Push, Pop, JumpIf, Jump, Call, Return, End}
 use Rattle.control.specs.Texts.{at}
 use Rattle.control.specs.Rules.{address, KeepsRules, Inside}
-use Rattle.control.specs.Weights.{jumps_back, loops, weigh, weigh_in, weights, weight, limit, bound}
-use Rattle.control.specs.Machine.{State, start, Outcome, Goes, Ends, Faults, goto, back, moved, move, steps}
+use Rattle.control.specs.Weights.{jumps_back, loops, weigh, weigh_in, weights, weight, limit}
+use Rattle.control.specs.Machine.{State, start, Outcome, Goes, Ends, Faults, back, moved, move, steps}
 use Rattle.control.specs.Promises.{WithinBound}
 use Rattle.control.proofs.Keeping.{judged_at, call_keeps}
 use Rattle.control.proofs.Safety.{Good, Fine, fine, good_start}

@@ -1,9 +1,9 @@
 -- What is promised of a text that keeps the rules, and what sections and ranks are in words.
-use Rattle.std.specs.Prelude.{◌≡◌, ℕ, ◌+◌, ◌<◌, ◌≤◌, Bool, true, false, ◌⊎◌, List, length, Some, None, Option}
+use Rattle.std.specs.Prelude.{◌≡◌, ℕ, ◌+◌, ◌<◌, ◌≤◌, Bool, true, false, ◌⊎◌, List, length, Some}
 use Rattle.control.specs.declared.control.Control.{Control}
 use Rattle.control.specs.declared.control.Control.TheVariants.{Plain, Push, Pop, JumpIf, Jump, Call, Return, End}
 use Rattle.control.specs.Texts.{at, starts, section, rank}
-use Rattle.control.specs.Machine.{State, Outcome, Goes, Ends, Faults, start, run, steps}
+use Rattle.control.specs.Machine.{Outcome, Goes, Ends, Faults, start, run, steps}
 use Rattle.control.specs.Rules.{address}
 use Rattle.control.specs.Weights.{weigh, weight, bound}
 

@@ -1,5 +1,5 @@
 -- The rules that a text must keep, instruction by instruction, and the first one that it breaks.
-use Rattle.std.specs.Prelude.{◌≡◌, ℕ, zero, suc, ◌+◌, ◌<◌, Bool, true, false, cond, not, ◌&&◌, ◌||◌, List, [], ◌∷◌, length, Some, None, Option, ◌==◌, nat_le}
+use Rattle.std.specs.Prelude.{◌≡◌, ℕ, zero, suc, ◌+◌, ◌<◌, Bool, cond, not, ◌||◌, List, [], ◌∷◌, length, Some, None, Option, ◌==◌, nat_le}
 use Rattle.control.specs.declared.code.LoadingCode.{LoadingCode}
 use Rattle.control.specs.declared.code.LoadingCode.TheVariants.{PushAtEight, PopAtZero, CallTooDeep, ReturnOutside, DepthDiffers, LeavesSection, SectionRunsOn, CallsBack}
 use Rattle.control.specs.declared.control.Control.{Control}

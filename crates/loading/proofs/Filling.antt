@@ -1,11 +1,10 @@
 -- Instructions that are decoded one after another, and what an accepted image has.
-use Rattle.std.proofs.Common.{◌≡◌, ℕ, zero, suc, ◌+◌, ◌<◌, ◌≤◌, Bool, true, false, List, length, get_or, set, replicate, Option, sym, refl, ap, ◌∙◌, subst, ⊎_elim, arith}
+use Rattle.std.proofs.Common.{◌≡◌, ℕ, zero, suc, ◌+◌, ◌<◌, true, List, length, get_or, set, replicate, Option, sym, refl, ap, ◌∙◌, subst, ⊎_elim, arith}
 use Rattle.std.proofs.lemmas.List.{get_or-set_same, get_or-set_other}
 use Rattle.std.proofs.lemmas.Bool.{cases_Bool, cases_eq}
 use Rattle.records.specs.declared.layout.Layout.{Layout}
 use Rattle.loading.specs.declared.instruction.Instruction.{Instruction}
-use Rattle.loading.specs.declared.verdict.Verdict.{Verdict}
-use Rattle.loading.specs.declared.verdict.Verdict.TheVariants.{BadLength, Accepted}
+use Rattle.loading.specs.declared.verdict.Verdict.TheVariants.{Accepted}
 use Rattle.opcodes.specs.Families.{known}
 use Rattle.opcodes.specs.Numbers.{number}
 use Rattle.loading.specs.Images.{lawful_length, opcode_at, operand_bytes}

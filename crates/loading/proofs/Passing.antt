@@ -1,17 +1,17 @@
 -- From instructions that keep their own rules to the verdict on the image.
-use Rattle.std.proofs.Common.{◌≡◌, ℕ, zero, suc, ◌+◌, ◌*◌, ◌/◌, ◌%◌, ◌<◌, ◌≤◌, Bool, true, false, cond, not, ◌&&◌, eqb, ltb, leb, ◌⊎◌, List, [], ◌∷◌, map, length, get_or, take, Some, None, Ok, Err, Option, Result, sym, refl, ap, ◌∙◌, subst, inl, inr, ⊎_elim, arith}
+use Rattle.std.proofs.Common.{◌≡◌, ℕ, zero, suc, ◌+◌, ◌%◌, ◌<◌, ◌≤◌, Bool, true, false, cond, not, ◌&&◌, eqb, ltb, leb, List, map, length, get_or, take, Some, None, Ok, Err, Option, sym, refl, ap, ◌∙◌, subst, inl, inr, arith}
 use Rattle.std.specs.List.{range_with_len}
 use Rattle.std.proofs.lemmas.List.FromFn.{length-map-range_with_len, fill_by_all}
 use Rattle.std.proofs.lemmas.List.{length-take-le, get_or-take}
-use Rattle.std.proofs.lemmas.Bool.{and_parts, and_from, leb-true, le-leb, ltb-true, lt-ltb, eqb-true, not-false, cond_both, cases_Bool, both_ways}
+use Rattle.std.proofs.lemmas.Bool.{and_parts, and_from, leb-true, le-leb, ltb-true, lt-ltb, eqb-true, not-false, cond_both, both_ways}
 use Rattle.records.specs.declared.layout.Layout.{Layout}
 use Rattle.control.specs.declared.code.LoadingCode.{LoadingCode}
 use Rattle.control.specs.declared.control.Control.{Control}
-use Rattle.control.specs.declared.control.Control.TheVariants.{Plain, Push, Pop, JumpIf, Jump, Call, Return, End}
+use Rattle.control.specs.declared.control.Control.TheVariants.{Plain}
 use Rattle.control.specs.Rules as rules
 use Rattle.control.specs.Rules.{broken, FirstAt, Nowhere, Found, first_of, first_found, first_broken}
 use Rattle.control.specs.Weights.{bound}
-use Rattle.control.specs.Machine.{State, Outcome, Goes, Ends, Faults, start, run, steps}
+use Rattle.control.specs.Machine.{Outcome, Goes, Ends, Faults, start, run}
 use Rattle.control.specs.Promises.{Sound}
 use Rattle.control.proofs.Keeping.{pass_all}
 use Rattle.control.proofs.Finding.{found_nowhere, found_is}
@@ -22,8 +22,7 @@ use Rattle.rules.specs.declared.judge.Judgment.TheVariants.{Malformed, Breaks, K
 use Rattle.rules.specs.Judgments as judging
 use Rattle.rules.specs.Judgments.{all_below, formed, told, judgment, Trusted}
 use Rattle.opcodes.specs.Families.{between, known, takes_address}
-use Rattle.loading.specs.declared.verdict.Verdict.{Verdict}
-use Rattle.loading.specs.declared.verdict.Verdict.TheVariants.{BadLength, Refused, Accepted}
+use Rattle.loading.specs.declared.verdict.Verdict.TheVariants.{BadLength, Refused}
 use Rattle.loading.specs.Images.{lawful_length, count, opcode_at, operand_bytes}
 use Rattle.loading.specs.Instructions.{address, fits, control_of, checks_alone, answered, alone}
 use Rattle.loading.specs.Verdicts.{broken_alone, kind_at, text, second, first, verdict, from_judgment}

@@ -1,5 +1,5 @@
 -- Decoded instructions, and the bytes that they stand for.
-use Rattle.std.specs.Prelude.{◌≡◌, ℕ, ◌<◌, ◌≤◌, Bool, true, cond, List, Option, slice_index_or}
+use Rattle.std.specs.Prelude.{◌≡◌, ℕ, ◌<◌, ◌≤◌, true, cond, List, slice_index_or}
 use Rattle.std.specs.Option.{unwrap_or}
 use Rattle.records.specs.declared.layout.Layout.{Layout}
 use Rattle.opcodes.specs.declared.opcode.Opcode.TheVariants.{Nop}

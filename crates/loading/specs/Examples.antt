@@ -1,5 +1,5 @@
 -- Worked examples, as one statement over the definitions.
-use Rattle.std.specs.Prelude.{◌≡◌, ℕ, zero, suc, List, [], ◌∷◌, ◌++◌, Some, Float}
+use Rattle.std.specs.Prelude.{◌≡◌, ℕ, zero, suc, List, [], ◌∷◌, ◌++◌, Some}
 use Rattle.constants.specs.Examples.{Example12Point35}
 use Rattle.records.specs.declared.layout.Layout.{Layout}
 use Rattle.control.specs.declared.code.LoadingCode.TheVariants.{PushAtEight}

@@ -1,7 +1,7 @@
 -- What an accepted image can be trusted with.
-use Rattle.std.specs.Prelude.{◌≡◌, ℕ, ◌<◌, ◌≤◌, Bool, true, List, Some, None, Option}
+use Rattle.std.specs.Prelude.{◌≡◌, ℕ, ◌<◌, ◌≤◌, Bool, true, List, Some}
 use Rattle.records.specs.declared.layout.Layout.{Layout}
-use Rattle.control.specs.Machine.{State, Outcome, Goes, Ends, Faults, start, run, steps}
+use Rattle.control.specs.Machine.{Outcome, Goes, Ends, Faults, start, run, steps}
 use Rattle.opcodes.specs.Families.{known}
 use Rattle.loading.specs.declared.verdict.Verdict.{Verdict}
 use Rattle.loading.specs.declared.verdict.Verdict.TheVariants.{BadLength, Refused, Accepted}

@@ -1,5 +1,5 @@
 -- The verdict of loading on an image and eight layouts.
-use Rattle.std.specs.Prelude.{ℕ, Bool, cond, List, map, length, Some, None, Option}
+use Rattle.std.specs.Prelude.{ℕ, cond, List, map, Some, None, Option}
 use Rattle.std.specs.List.{range_with_len}
 use Rattle.records.specs.declared.layout.Layout.{Layout}
 use Rattle.control.specs.declared.code.LoadingCode.{LoadingCode}

@@ -1,5 +1,5 @@
 -- The cells that an operand's first two bytes name.
-use Rattle.std.specs.Prelude.{ℕ, ◌-◌, Bool, cond, ◌&&◌, Some, None, Option, ◌==◌, nat_le}
+use Rattle.std.specs.Prelude.{ℕ, ◌-◌, cond, ◌&&◌, Some, None, Option, ◌==◌, nat_le}
 use Rattle.records.specs.declared.record.Record.TheVariants.{Current, Previous}
 use Rattle.operands.specs.declared.cell.Cell.{Cell}
 use Rattle.operands.specs.declared.cell.Cell.TheVariants.{Event, Definite, Marker, Register, Counter, Activity}

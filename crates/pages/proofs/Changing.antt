@@ -1,22 +1,19 @@
 -- What placing and turning make of a page, from what they make of its placements.
-use Rattle.std.proofs.Common.{◌≡◌, ℕ, ◌+◌, ◌-◌, ◌*◌, ◌<◌, ◌≤◌, Bool, true, false, cond, not, ◌&&◌, eqb, ltb, leb, ◌⊎◌, List, [], ◌∷◌, map, length, get_or, set, Result, sym, refl, ap, ◌∙◌, subst, ⊎_elim, arith}
+use Rattle.std.proofs.Common.{◌≡◌, ℕ, ◌-◌, ◌<◌, ◌≤◌, Bool, true, false, cond, not, eqb, ltb, leb, List, [], ◌∷◌, map, length, get_or, set, Result, sym, refl, ap, ◌∙◌, subst, ⊎_elim, arith}
 use Rattle.std.specs.List.{range_with_len}
 use Rattle.std.proofs.lemmas.List.FromFn.{length-map-range_with_len}
 use Rattle.std.proofs.lemmas.List.{get_or-set_same, get_or-set_other, get_or_past, nil_from_length, set_past, length-set}
 use Rattle.std.proofs.lemmas.Bool.{and_parts, and_from, leb-true, eqb-true, eq-eqb, ltb-true, not-true, or_cases, or_right, cond-true, cond_both, cases_lt, cases_eq, both_ways}
 use Rattle.records.specs.declared.layout.Layout.{Layout}
 use Rattle.records.specs.declared.record.Record.{Record}
-use Rattle.records.specs.declared.record.Record.TheVariants.{Current, Previous}
-use Rattle.records.specs.Layouts.{lawful}
-use Rattle.records.specs.Meaning.{Meaning, SameBase, Same}
 use Rattle.pages.specs.declared.placement.Placement.{Placement}
 use Rattle.pages.specs.declared.refusal.Refusal.{Refusal}
 use Rattle.pages.specs.Refusals.{answer, code}
 use Rattle.pages.specs.Placements.{nowhere, placement, row_lawful, fits, placeable, placed, turnable, turned, at_row}
 use Rattle.pages.specs.Pages.{by_rows, by_columns, row_number, row_bytes, page, held, AllHeld}
-use Rattle.pages.specs.Tables.{Shaped, Lies, row_after_row, column_after_column, Transposed, Alike}
+use Rattle.pages.specs.Tables.{Alike}
 use Rattle.pages.specs.Changes.{Given, Placing, Turning}
-use Rattle.pages.proofs.Reading.{Fitting, fitting, row_below}
+use Rattle.pages.proofs.Reading.{fitting, row_below}
 use Rattle.pages.proofs.Writing.{Reads, rows_read, columns_read}
 
 map_same : (f g : ℕ → ℕ) → ((x : ℕ) → f x ≡ g x) → (xs : List ℕ) → map f xs ≡ map g xs

@@ -1,16 +1,15 @@
 -- Reading one byte: it lies inside the page, and it is the byte that the page's meaning has.
-use Rattle.std.proofs.Common.{◌≡◌, ℕ, ◌+◌, ◌-◌, ◌*◌, ◌<◌, ◌≤◌, Bool, true, false, ◌&&◌, eqb, ltb, leb, List, map, length, get_or, Some, None, Option, sym, refl, ap, ◌∙◌, subst, ⊎_elim, zero-add, arith}
-use Rattle.std.specs.List.{slice_get, range_with_len}
+use Rattle.std.proofs.Common.{◌≡◌, ℕ, ◌+◌, ◌*◌, ◌<◌, ◌≤◌, true, eqb, List, length, get_or, Some, None, sym, ap, ◌∙◌, subst, ⊎_elim, zero-add, arith}
+use Rattle.std.specs.List.{slice_get}
 use Rattle.std.proofs.lemmas.Nat.{mul-add-lt}
 use Rattle.std.proofs.lemmas.List.FromFn.{length-map-range_with_len, get_or-map-range_with_len}
 use Rattle.std.proofs.lemmas.Option.{slice_get-get_or, slice_get_past}
 use Rattle.std.proofs.lemmas.Bool.{or_cases, and_parts, eqb-true, leb-true, ltb-true}
 use Rattle.records.specs.declared.record.Record.{Record}
 use Rattle.records.specs.declared.record.Record.TheVariants.{Current, Previous}
-use Rattle.records.specs.Layouts.{lawful}
 use Rattle.records.specs.Meaning.{byte_at}
 use Rattle.pages.specs.declared.placement.Placement.{Placement}
-use Rattle.pages.specs.Placements.{placement, fits, row_lawful}
+use Rattle.pages.specs.Placements.{placement, fits}
 use Rattle.pages.specs.Pages.{by_rows, by_columns, row_number, row_bytes, page, held, AllHeld}
 
 -- what a placement that fits says, as numbers

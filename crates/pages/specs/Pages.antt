@@ -1,17 +1,16 @@
 -- Pages: what a page over a caller's bytes means, by where the bytes of its rows lie.
-use Rattle.std.specs.Prelude.{◌≡◌, ℕ, ◌+◌, ◌-◌, ◌*◌, ◌≤◌, Bool, true, ◌||◌, ◌⊎◌, List, map, length, ◌==◌, slice_index, refl}
-use Rattle.std.proofs.Common.{sym, ap, ◌∙◌, inl, inr, ⊎_elim, arith, eqb-true}
+use Rattle.std.specs.Prelude.{◌≡◌, ℕ, ◌+◌, ◌-◌, ◌*◌, Bool, true, ◌||◌, ◌⊎◌, List, map, length, ◌==◌, slice_index}
+use Rattle.std.proofs.Common.{ap, inl, inr, ⊎_elim, arith, eqb-true}
 use Rattle.std.specs.List.{range_with_len}
 use Rattle.std.proofs.lemmas.List.{get_or_past}
 use Rattle.std.proofs.lemmas.List.FromFn.{length-map-range_with_len}
 use Rattle.std.proofs.lemmas.Bool.{or_cases, and_parts}
-use Rattle.records.specs.declared.layout.Layout.{Layout}
 use Rattle.records.specs.declared.record.Record.{Record}
 use Rattle.records.specs.declared.record.Record.TheVariants.{Current, Previous}
 use Rattle.records.specs.Layouts.{absent, lawful}
 use Rattle.records.specs.Meaning.{Meaning, Lawful}
 use Rattle.pages.specs.declared.placement.Placement.{Placement}
-use Rattle.pages.specs.Placements.{nowhere, placement, fits, row_lawful}
+use Rattle.pages.specs.Placements.{nowhere, placement, fits}
 
 -- where byte o of row k lies: row after row, or column after column
 abbrev pub by_rows : Placement → ℕ → ℕ → ℕ

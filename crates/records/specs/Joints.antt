@@ -1,6 +1,6 @@
 -- A joint: current records of one source, previous records of another.
-use Rattle.std.specs.Prelude.{◌≡◌, ℕ, ◌≤◌, Bool, true, false, cond, ◌⊎◌, List, [], length, refl}
-use Rattle.std.proofs.Common.{sym, ap, ◌∙◌, inl, inr, eqb-true}
+use Rattle.std.specs.Prelude.{◌≡◌, ℕ, Bool, true, false, cond, ◌⊎◌, List, [], length, refl}
+use Rattle.std.proofs.Common.{sym, ◌∙◌, inl, eqb-true}
 use Rattle.records.specs.declared.layout.Layout.{Layout}
 use Rattle.records.specs.declared.record.Record.{Record}
 use Rattle.records.specs.declared.record.Record.TheVariants.{Current, Previous}

@@ -1,5 +1,5 @@
 -- Layouts: a lawful one has 1 to 512 bytes, the absent one has none.
-use Rattle.std.specs.Prelude.{ℕ, Bool, ◌&&◌, ◌==◌, nat_le}
+use Rattle.std.specs.Prelude.{Bool, ◌&&◌, ◌==◌, nat_le}
 use Rattle.records.specs.declared.layout.Layout.{Layout}
 
 abbrev pub absent : Layout

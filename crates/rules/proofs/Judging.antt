@@ -1,7 +1,7 @@
 -- What a judgment says of its text.
-use Rattle.std.proofs.Common.{◌≡◌, ℕ, zero, suc, ◌+◌, ◌<◌, ◌≤◌, Bool, true, false, cond, ◌&&◌, ltb, leb, ◌⊎◌, List, [], ◌∷◌, length, get_or, drop, Some, None, Option, sym, refl, ap, ◌∙◌, subst, ⊎_elim, arith}
-use Rattle.std.proofs.lemmas.List.{at_drop_more, at_drop_all}
-use Rattle.std.proofs.lemmas.Bool.{and_parts, and_from, and_left, and_right, ltb-true, leb-true, le-ltb, lt-ltb, le-leb}
+use Rattle.std.proofs.Common.{◌≡◌, ℕ, zero, suc, ◌+◌, ◌<◌, ◌≤◌, Bool, true, cond, ◌&&◌, ltb, leb, List, [], ◌∷◌, length, drop, None, Option, sym, ap, ◌∙◌, arith}
+use Rattle.std.proofs.lemmas.List.{at_drop_more}
+use Rattle.std.proofs.lemmas.Bool.{and_parts, and_from, ltb-true, leb-true, lt-ltb, le-leb}
 use Rattle.control.specs.declared.code.LoadingCode.{LoadingCode}
 use Rattle.control.specs.declared.control.Control.{Control}
 use Rattle.control.specs.declared.control.Control.TheVariants.{Plain}
@@ -12,8 +12,7 @@ use Rattle.control.proofs.Finding.{found_nowhere}
 use Rattle.control.proofs.Safety.{never_faults}
 use Rattle.control.proofs.Sections.{words}
 use Rattle.control.proofs.Weighing.{within_bound}
-use Rattle.rules.specs.declared.judge.Judgment.{Judgment}
-use Rattle.rules.specs.declared.judge.Judgment.TheVariants.{Malformed, Breaks, Keeps}
+use Rattle.rules.specs.declared.judge.Judgment.TheVariants.{Malformed, Keeps}
 use Rattle.rules.specs.Judgments.{all_below, formed, told, judgment, Trusted}
 
 pub below_step : (text : List Control) (i : ℕ) → i < length text

@@ -1,10 +1,9 @@
 -- The first broken rule, found one instruction after another.
-use Rattle.std.proofs.Common.{◌≡◌, ℕ, zero, suc, ◌+◌, ◌-◌, ◌<◌, ◌≤◌, max, Bool, true, false, cond, ◌||◌, eqb, ◌⊎◌, List, [], ◌∷◌, length, get_or, Some, None, Option, sym, refl, ap, ◌∙◌, subst, ⊎_elim, add-one, arith}
+use Rattle.std.proofs.Common.{◌≡◌, ℕ, zero, suc, ◌+◌, ◌<◌, ◌≤◌, max, Bool, false, cond, ◌||◌, eqb, List, length, get_or, sym, refl, ap, ◌∙◌, ⊎_elim, add-one, arith}
 use Rattle.std.proofs.lemmas.Bool.{cases_Bool, cases_eq, eq-eqb, cond-true, cond-false}
-use Rattle.control.specs.declared.code.LoadingCode.{LoadingCode}
 use Rattle.control.specs.declared.control.Control.{Control}
 use Rattle.control.specs.declared.place.Place.{Place}
-use Rattle.control.specs.Texts.{at, calls, called, starts, depth, section, Ranks, asked_more, ranks, rank}
+use Rattle.control.specs.Texts.{at, calls, called, starts, depth, section, asked_more, ranks, rank}
 use Rattle.control.specs.Rules.{place, first_of, checks, address, Inside, broken}
 use Rattle.rules.specs.Maps.{Mapped}
 use Rattle.rules.proofs.Measuring.{starts_later}

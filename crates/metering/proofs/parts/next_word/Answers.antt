@@ -1,4 +1,4 @@
-use Rattle.std.proofs.Common.{◌≡◌, ◌<◌, length, ◌∙◌, arith, rules}
+use Rattle.std.proofs.Common.{◌<◌, length, ◌∙◌, arith, rules}
 use Rattle.metering.proofs.Cutting.{no_word, blank_first, word_first}
 use Rattle.metering.proofs.parts.next_word.Goals as goal
 

@@ -1,4 +1,4 @@
-use Rattle.std.proofs.Common.{ℕ, refl, ap, ◌∙◌, arith}
+use Rattle.std.proofs.Common.{ℕ, ap, ◌∙◌, arith}
 use Rattle.std.proofs.lemmas.List.{length-set, length-replicate}
 use Rattle.control.specs.Texts.{at, stacked, depth}
 use Rattle.rules.proofs.Measuring.{depth_start, depth_next, depth_high, filled_more}

@@ -1,6 +1,6 @@
-use Rattle.std.proofs.Common.{◌≡◌, ℕ, ◌+◌, ◌<◌, max, cond, get_or, sym, refl, ap, ◌∙◌, arith}
+use Rattle.std.proofs.Common.{◌≡◌, ℕ, ◌+◌, ◌<◌, max, cond, get_or, sym, ap, ◌∙◌, arith}
 use Rattle.std.proofs.lemmas.List.{get_or-replicate}
-use Rattle.control.specs.Texts.{at, calls, ranks, rank}
+use Rattle.control.specs.Texts.{at, calls, ranks}
 use Rattle.control.specs.Rules.{broken}
 use Rattle.control.proofs.Finding.{found_start, found_none, found_here}
 use Rattle.rules.proofs.Scanning.{asked_start, rank_start, asked_next, ranks_low, told_broken, told_rank}

@@ -1,6 +1,5 @@
 use Rattle.std.proofs.Common.{◌||◌, ap, ◌∙◌}
-use Rattle.control.specs.Texts.{at}
-use Rattle.control.specs.Weights.{loops, jumps_back}
+use Rattle.control.specs.Weights.{loops}
 use Rattle.rules.proofs.Capping.{loops_start, loops_next}
 use Rattle.rules.proofs.weigh.has_loop.Goals as goal
 
