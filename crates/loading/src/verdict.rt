@@ -22,6 +22,7 @@ pub enum Verdict {
     Accepted(Option<u32>),
 }
 
+#[tactic(auto, unfolding(crate::specs::Verdicts::verdict))]
 pub fn judge_image(image: &[u8], layouts: &[Layout; 8]) -> Verdict
     ensures value { result ≡ verdict layouts.now image.now }
     ensures says { Says layouts.now image.now result }

@@ -1,5 +1,5 @@
 -- Texts of hexadecimal bytes: lines, words, the bytes that the words stand for, and the first fault in the text's order.
-use Rattle.std.specs.Prelude.{◌≡◌, ℕ, ◌+◌, ◌*◌, Bool, cond, ◌&&◌, ◌||◌, ◌⊎◌, List, [], ◌∷◌, ◌++◌, length, Some, None, Ok, Err, Option, Result, ◌==◌, nat_lt, slice_index}
+use Rattle.std.specs.Prelude.{◌≡◌, ℕ, ◌+◌, ◌*◌, Bool, true, false, cond, ◌&&◌, ◌||◌, ◌⊎◌, List, [], ◌∷◌, ◌++◌, length, Some, None, Ok, Err, Option, Result, ◌==◌, nat_lt, slice_index}
 use Rattle.std.specs.Char.{is_ascii_whitespace, digit_value}
 use Rattle.metering.specs.declared.fault.ArchiveFault.{ArchiveFault}
 use Rattle.metering.specs.declared.fault.ArchiveFault.TheVariants.{Memory, NotAByte}
@@ -8,16 +8,18 @@ abbrev pub begun_by : ℕ → List (List ℕ) → List (List ℕ)
 begun_by b [] = (b ∷ []) ∷ []
 begun_by b (p ∷ ps) = (b ∷ p) ∷ ps
 
--- the parts of a text: a byte that passes the test ends a part and belongs to none; the last may end with the text
-abbrev pub parts : (ℕ → Bool) → List ℕ → List (List ℕ)
-parts ends [] = []
-parts ends (b ∷ bs) = cond (ends b) ([] ∷ parts ends bs) (begun_by b (parts ends bs))
+-- The parts of a text: a byte that passes the test ends a part, and belongs to it where such bytes are kept, else to none. The last
+-- part may end with the text.
+abbrev pub parts : (ℕ → Bool) → Bool → List ℕ → List (List ℕ)
+parts ends kept [] = []
+parts ends kept (b ∷ bs) = cond (ends b) (cond kept (b ∷ []) [] ∷ parts ends kept bs) (begun_by b (parts ends kept bs))
 
 abbrev pub newline : ℕ → Bool
 newline b = b == 10
 
+-- each with its newline
 unfoldable pub lines : List ℕ → List (List ℕ)
-lines text = parts newline text
+lines text = parts newline true text
 
 abbrev pub not_empty : List (List ℕ) → List (List ℕ)
 not_empty [] = []
@@ -25,11 +27,11 @@ not_empty ([] ∷ ps) = not_empty ps
 not_empty ((b ∷ p) ∷ ps) = (b ∷ p) ∷ not_empty ps
 
 unfoldable pub words : List ℕ → List (List ℕ)
-words line = not_empty (parts is_ascii_whitespace line)
+words line = not_empty (parts is_ascii_whitespace false line)
 
--- a line is passed over if it is empty, has only the carriage return (13) of its end, or begins with # (35)
+-- a line is passed over if it has nothing before its end (a newline, or a carriage return, 13, and a newline), or begins with # (35)
 abbrev pub passed_over : List ℕ → Bool
-passed_over line = length line == 0 || (length line == 1 && slice_index line 0 == 13) || slice_index line 0 == 35
+passed_over line = newline (slice_index line 0) || (slice_index line 0 == 13 && newline (slice_index line 1)) || slice_index line 0 == 35
 
 abbrev pub hex_digit : ℕ → Option ℕ
 hex_digit b = cond (nat_lt (digit_value b) 16) (Some (digit_value b)) None

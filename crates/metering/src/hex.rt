@@ -1,5 +1,5 @@
 // Bytes as two hexadecimal digits.
-ghost use Rattle.std.specs.Prelude.{◌≡◌};
+ghost use Rattle.std.specs.Prelude.{◌≡◌, ◌<◌, IfSome};
 ghost use Rattle.metering.specs.Texts.{hex_digit, byte_of};
 
 pub fn hex_byte(word: &[u8]) -> Option<u8>
@@ -15,7 +15,8 @@ pub fn hex_byte(word: &[u8]) -> Option<u8>
 }
 
 fn hex_digit(digit: u8) -> Option<u8>
-    ensures { result ≡ hex_digit digit }
+    ensures value { result ≡ hex_digit digit }
+    ensures small { IfSome result (λ d. d < 16) }
 {
     match digit {
         b'0'..=b'9' => Some(digit - b'0'),

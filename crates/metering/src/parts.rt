@@ -5,7 +5,9 @@ ghost use Rattle.metering.specs.Parts.{parted, Split, First};
 
 #[derive(Clone, Copy)]
 enum Separator {
+    // Belongs to the line that it ends.
     Newline,
+    // Belongs to no word.
     Blank,
 }
 
@@ -34,13 +36,16 @@ pub fn next_word(line: &[u8]) -> Option<(&[u8], &[u8])>
     None
 }
 
-// What stands before the first separator, and what follows it.
+// The first part, and what follows its separator.
 fn split(text: &[u8], by: Separator) -> (&[u8], &[u8])
     ensures { Split by text.now result.0.now result.1.now }
 {
     for i in 0..text.len() {
         if parts_at(by, text[i]) {
-            return (&text[..i], &text[i + 1..]);
+            return match by {
+                Separator::Newline => (&text[..i + 1], &text[i + 1..]),
+                Separator::Blank => (&text[..i], &text[i + 1..]),
+            };
         }
     }
     (text, &[])
@@ -59,5 +64,8 @@ fn parts_at(by: Separator, byte: u8) -> bool
 pub fn is_passed_over(line: &[u8]) -> bool
     ensures { result ≡ passed_over line.now }
 {
-    line.is_empty() || line.len() == 1 && line[0] == b'\r' || line[0] == b'#'
+    match line {
+        [b'\n', ..] | [b'\r', b'\n', ..] | [b'#', ..] => true,
+        _ => false,
+    }
 }

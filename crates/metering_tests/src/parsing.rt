@@ -62,6 +62,13 @@ fn other_texts_are_refused(rt: HostRuntime) -> Result<(), Fail> {
         fault(heap, longer.as_str()),
         Some(ArchiveFault::WrongLength(1))
     );
+    let mut returned = String::new(heap);
+    returned.push_str(line(heap, "00", 100, "\r\n")?.as_str())?;
+    returned.push_str(line(heap, "00", 100, "\r\n\r")?.as_str())?;
+    assert_eq!(rt;
+        fault(heap, returned.as_str()),
+        Some(ArchiveFault::WrongLength(3))
+    );
     let letter = line(heap, "00", 99, "0g\n")?;
     assert_eq!(rt;
         fault(heap, letter.as_str()),

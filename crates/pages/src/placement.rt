@@ -84,6 +84,7 @@ pub fn place(
     Ok(())
 }
 
+#[tactic(auto, using(std::proofs::lemmas::List::get_or_past))]
 pub fn turn(bases: &mut Bases, base: u8, row: u32) -> Result<(), Refusal>
     ensures answer { result ≡ answer (turnable bases.old base row) }
     ensures after { bases.new ≡ (if turnable bases.old base row then turned bases.old base row else bases.old) }

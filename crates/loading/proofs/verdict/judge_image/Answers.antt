@@ -1,17 +1,12 @@
-use Rattle.std.proofs.Common.{sym, refl}
+use Rattle.std.proofs.Common.{refl, sym}
 use Rattle.loading.proofs.Worked.{examples}
-use Rattle.loading.proofs.Passing.{bad_length}
 use Rattle.loading.proofs.verdict.judge_image.Goals as goal
 
-pub returns-then-not-has_lawful_length : goal.returns-then-not-has_lawful_length
-returns-then-not-has_lawful_length c =
-    let unlawful = sym c.if-not-has_lawful_length.ensures in
-    record {
-      value = bad_length c.args.layouts.now c.args.image.now unlawful;
-      says = record { unlawful = unlawful; numbered = refl };
-      trusted = tt;
-      examples = examples;
-    }
+pub returns-then-not-has_lawful_length-clause-says : goal.returns-then-not-has_lawful_length-clause-says
+returns-then-not-has_lawful_length-clause-says c = record { unlawful = sym c.if-not-has_lawful_length.ensures; numbered = refl }
 
-pub returns : goal.returns
-returns c = record { value = c.judge_instructions.ensures.value; says = c.judge_instructions.ensures.says; trusted = c.judge_instructions.ensures.trusted; examples = examples }
+pub returns-then-not-has_lawful_length-clause-examples : goal.returns-then-not-has_lawful_length-clause-examples
+returns-then-not-has_lawful_length-clause-examples c = examples
+
+pub returns-clause-examples : goal.returns-clause-examples
+returns-clause-examples c = examples
