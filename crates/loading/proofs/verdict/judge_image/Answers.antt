@@ -1,9 +1,5 @@
-use Rattle.std.proofs.Common.{refl, sym}
 use Rattle.loading.proofs.Worked.{examples}
 use Rattle.loading.proofs.verdict.judge_image.Goals as goal
-
-pub returns-then-not-has_lawful_length-clause-says : goal.returns-then-not-has_lawful_length-clause-says
-returns-then-not-has_lawful_length-clause-says c = record { unlawful = sym c.if-not-has_lawful_length.ensures; numbered = refl }
 
 pub returns-then-not-has_lawful_length-clause-examples : goal.returns-then-not-has_lawful_length-clause-examples
 returns-then-not-has_lawful_length-clause-examples c = examples
