@@ -7,6 +7,8 @@ use std::process::Abort;
 pub struct Both<'a> {
     pub rows: RowPage<'a>,
     pub columns: ColumnPage<'a>,
+    // How many bytes the first has, for messages.
+    size: usize,
 }
 
 impl<'a> Both<'a> {
@@ -14,6 +16,7 @@ impl<'a> Both<'a> {
         Both {
             rows: RowPage::new(by_rows),
             columns: ColumnPage::new(by_columns),
+            size: by_rows.len(),
         }
     }
 
@@ -23,15 +26,15 @@ impl<'a> Both<'a> {
         assert_eq!(rt;
             in_rows,
             answer,
-            "in rows, at base {base}, length {}, start {}, {} rows, row {}",
-            placement.layout.length, placement.start, placement.rows, placement.row
+            "in rows, at base {base}, length {}, start {}, {} rows, row {}, {} bytes",
+            placement.layout.length, placement.start, placement.rows, placement.row, self.size
         );
         let in_columns = number(self.columns.place(base, placement));
         assert_eq!(rt;
             in_columns,
             answer,
-            "in columns, at base {base}, length {}, start {}, {} rows, row {}",
-            placement.layout.length, placement.start, placement.rows, placement.row
+            "in columns, at base {base}, length {}, start {}, {} rows, row {}, {} bytes",
+            placement.layout.length, placement.start, placement.rows, placement.row, self.size
         );
     }
 

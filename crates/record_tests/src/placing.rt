@@ -15,8 +15,20 @@ fn check_placing(rt: &impl Abort, bytes: &[u8], base: u8, placement: Placement, 
     };
     let mut pages = Both::new(bytes, bytes);
     pages.place(rt, base, placement, answer);
-    assert_eq!(rt; pages.rows.layout(base).length, length);
-    assert_eq!(rt; pages.columns.layout(base).length, length);
+    assert_eq!(rt;
+        pages.rows.layout(base).length,
+        length,
+        "in rows, at base {base}, {} rows, row {}",
+        placement.rows,
+        placement.row
+    );
+    assert_eq!(rt;
+        pages.columns.layout(base).length,
+        length,
+        "in columns, at base {base}, {} rows, row {}",
+        placement.rows,
+        placement.row
+    );
 }
 
 #[test]
