@@ -1,4 +1,4 @@
--- What is promised of a text that keeps the rules, and what sections and ranks are in words.
+-- What is promised of a text that keeps the rules, and what sections, ranks and weights are in words.
 use Rattle.std.specs.Prelude.{◌≡◌, ℕ, ◌+◌, ◌<◌, ◌≤◌, Bool, true, false, ◌⊎◌, List, length, Some}
 use Rattle.control.specs.declared.control.Control.{Control}
 use Rattle.control.specs.declared.control.Control.TheVariants.{Plain, Push, Pop, JumpIf, Jump, Call, Return, End}

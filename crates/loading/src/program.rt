@@ -1,5 +1,5 @@
 // A loaded program: its instructions, ready to run, in memory of a fixed size.
-ghost use Rattle.std.specs.Prelude.{◌≡◌, ℕ, ◌+◌, ◌*◌, ◌<◌, ◌≤◌, true, ◌&&◌, ltb, length, if◌then◌else◌, Some, None, nat_lt, slice_index_or};
+ghost use Rattle.std.specs.Prelude.{◌≡◌, ℕ, ◌+◌, ◌*◌, ◌<◌, ◌≤◌, true, ◌&&◌, length, if◌then◌else◌, Some, None, nat_lt, slice_index_or};
 ghost use Rattle.loading.specs.Images.{lawful_length, count};
 ghost use Rattle.loading.specs.Verdicts.{verdict};
 ghost use Rattle.loading.specs.Meaning.{Says};
@@ -63,7 +63,7 @@ impl Program {
     }
 
     pub fn instruction(&self, n: u16) -> Option<Instruction>
-        ensures { result ≡ (if ltb n self.now.count && nat_lt n 1024 then Some (slice_index_or self.now.instructions n nothing) else None) }
+        ensures { result ≡ (if nat_lt n self.now.count && nat_lt n 1024 then Some (slice_index_or self.now.instructions n nothing) else None) }
     {
         if n < self.count && (n as usize) < MOST_INSTRUCTIONS {
             return Some(self.instructions[n as usize]);

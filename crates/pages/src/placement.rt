@@ -1,6 +1,6 @@
 // Where a base's rows lie in a page's bytes, and which row is the current one.
-ghost use Rattle.std.specs.Prelude.{◌≡◌, length, if◌then◌else◌};
-ghost use Rattle.pages.specs.Placements.{placement, fits, placeable, turnable, placed, turned};
+ghost use Rattle.std.specs.Prelude.{◌≡◌, ◌<◌, length, if◌then◌else◌};
+ghost use Rattle.pages.specs.Placements.{nowhere, placement, fits, placeable, turnable, placed, turned};
 ghost use Rattle.pages.specs.Pages.{row_number};
 ghost use Rattle.pages.specs.Refusals.{answer};
 
@@ -60,7 +60,8 @@ impl Placement {
 pub type Bases = [Placement; 8];
 
 pub fn of_base(bases: &Bases, base: u8) -> Placement
-    ensures { result ≡ placement bases.now base }
+    ensures value { result ≡ placement bases.now base }
+    ensures beyond { 7 < base → result ≡ nowhere }
 {
     if base > 7 {
         return Placement::NOWHERE;
@@ -84,7 +85,6 @@ pub fn place(
     Ok(())
 }
 
-#[tactic(auto, using(std::proofs::lemmas::List::get_or_past))]
 pub fn turn(bases: &mut Bases, base: u8, row: u32) -> Result<(), Refusal>
     ensures answer { result ≡ answer (turnable bases.old base row) }
     ensures after { bases.new ≡ (if turnable bases.old base row then turned bases.old base row else bases.old) }

@@ -18,16 +18,22 @@ fn check_placing(rt: &impl Abort, bytes: &[u8], base: u8, placement: Placement, 
     assert_eq!(rt;
         pages.rows.layout(base).length,
         length,
-        "in rows, at base {base}, {} rows, row {}",
+        "in rows, at base {base}, length {}, start {}, {} rows, row {}, {} bytes",
+        placement.layout.length,
+        placement.start,
         placement.rows,
-        placement.row
+        placement.row,
+        bytes.len()
     );
     assert_eq!(rt;
         pages.columns.layout(base).length,
         length,
-        "in columns, at base {base}, {} rows, row {}",
+        "in columns, at base {base}, length {}, start {}, {} rows, row {}, {} bytes",
+        placement.layout.length,
+        placement.start,
         placement.rows,
-        placement.row
+        placement.row,
+        bytes.len()
     );
 }
 

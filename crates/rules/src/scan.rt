@@ -1,5 +1,5 @@
 // The first instruction of a text that breaks a rule.
-ghost use Rattle.std.specs.Prelude.{◌≡◌, ℕ, ◌+◌, ◌<◌, ◌≤◌, max, false, ◌||◌, length, get_or, if◌then◌else◌, ◌==◌, slice_index, slice_index_or};
+ghost use Rattle.std.specs.Prelude.{◌≡◌, ℕ, ◌+◌, ◌<◌, ◌≤◌, max, false, ◌||◌, length, if◌then◌else◌, ◌==◌, slice_index, slice_index_or};
 ghost use Rattle.control.specs.Texts.{calls, called, starts, depth, section};
 ghost use Rattle.control.specs.Rules.{Inside, Found, address, broken, first_broken};
 ghost use Rattle.control.specs.Promises.{Words, WeightsFollow};
@@ -83,7 +83,7 @@ fn rank_at(
     n: usize,
     before: u16,
 ) -> u16
-    ensures { n < 1024 → result ≡ (if get_or marks.now n false then slice_index asked.now n else before) }
+    ensures { n < 1024 → result ≡ (if slice_index_or marks.now n false then slice_index asked.now n else before) }
 {
     if n < MOST_INSTRUCTIONS && marks[n] {
         asked[n]

@@ -1,5 +1,5 @@
 // The step bound of a text.
-ghost use Rattle.std.specs.Prelude.{◌≡◌, ℕ, ◌+◌, ◌-◌, ◌<◌, ◌≤◌, min, max, false, cond, ◌||◌, length};
+ghost use Rattle.std.specs.Prelude.{◌≡◌, ℕ, ◌+◌, ◌-◌, ◌<◌, ◌≤◌, min, max, false, ◌||◌, length};
 ghost use Rattle.control.specs.Weights.{jumps_back, loops, weigh, weight, bound};
 ghost use Rattle.control.specs.Rules.{Inside};
 ghost use Rattle.rules.specs.Caps.{capped};

@@ -6,20 +6,20 @@ use Rattle.pages.proofs.column_page.ColumnPageSource.byte.Goals as goal
 pub returns-then-offset-at : goal.returns-then-offset-at
 returns-then-offset-at c =
     answers_none by_columns c.args.self.now.bytes.now c.args.self.now.bases c.args.base c.args.which c.args.offset
-    c.of_base-at.result c.of_base-at.ensures c.if-offset-at.true
+    c.of_base-at.result c.of_base-at.ensures.value c.if-offset-at.true
 
 pub byte_at-requires : goal.byte_at-requires
 byte_at-requires c =
     let fits =
     found_fits by_columns c.args.self.now.bytes.now c.args.self.now.bases c.args.base c.args.which c.args.offset
-    c.of_base-at.result c.of_base-at.ensures c.args.self.now.held c.if-offset-at.false in
+    c.of_base-at.result c.of_base-at.ensures.value c.args.self.now.held c.if-offset-at.false in
     let below =
     found_row by_columns c.args.self.now.bytes.now c.args.self.now.bases c.args.base c.args.which c.args.offset
-    c.of_base-at.result c.of_base-at.ensures c.row_of-row.result c.row_of-row.ensures c.args.self.now.held c.if-offset-at.false in
+    c.of_base-at.result c.of_base-at.ensures.value c.row_of-row.result c.row_of-row.ensures c.args.self.now.held c.if-offset-at.false in
     by_columns_inside _ c.of_base-at.result c.row_of-row.result c.args.offset fits below c.if-offset-at.false
 
 pub returns : goal.returns
 returns c =
     ap Some c.byte_at.ensures
     ∙ answers_some by_columns c.args.self.now.bytes.now c.args.self.now.bases c.args.base c.args.which c.args.offset
-    c.of_base-at.result c.of_base-at.ensures c.row_of-row.result c.row_of-row.ensures c.if-offset-at.false
+    c.of_base-at.result c.of_base-at.ensures.value c.row_of-row.result c.row_of-row.ensures c.if-offset-at.false
