@@ -1,5 +1,5 @@
 // Why the program ends with status 1. A message may name a path of any length, and `anyhow::Error` keeps only 120 bytes of one.
-use std::alloc::AllocError;
+use std::alloc::{AllocError, Global};
 use std::{fmt, io};
 
 #[derive(Drop)]
@@ -8,7 +8,14 @@ pub enum Failure {
     Other(anyhow::Error),
 }
 
-// As `main` prints it.
+impl Failure {
+    // The message, or that there is no memory for it.
+    pub fn told<T: fmt::Display + Drop>(heap: Global, message: T) -> Result<Failure, Failure> {
+        Ok(Failure::Told(message.to_string(heap)?))
+    }
+}
+
+// As `main` prints it: by hand, since a derived Debug prints the case's name too.
 impl fmt::Debug for Failure {
     fn fmt<W: fmt::Write>(&self, f: &mut fmt::Formatter<W>) -> fmt::Result {
         match self {
@@ -18,6 +25,7 @@ impl fmt::Debug for Failure {
     }
 }
 
+// By hand, since a derive makes one conversion of a case, and three kinds of errors become `Other`.
 impl From<anyhow::Error> for Failure {
     fn from(error: anyhow::Error) -> Failure {
         Failure::Other(error)

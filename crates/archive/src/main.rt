@@ -24,13 +24,11 @@ fn run(rt: &HostRuntime) -> Result<(), Failure> {
     };
     let records = read_archive(rt, archive.as_str())?;
     let text = read_text(rt, program.as_str())?;
-    match parse_bytes(heap, text.as_str()) {
-        Ok(image) => loss::show_loss(rt, image.as_slice())?,
-        Err(e) => {
-            let message = format!(in heap; "{program} is no program: {e}")?;
-            return Err(Failure::Told(message));
-        }
-    }
+    let image = parse_bytes(heap, text.as_str()).try_map_err(|e| Failure::told(
+        heap,
+        format_args!("{program} is no program: {e}"),
+    ))?;
+    loss::show_loss(rt, image.as_slice())?;
     walk::walk(rt, &records)?;
     Ok(())
 }
@@ -38,15 +36,15 @@ fn run(rt: &HostRuntime) -> Result<(), Failure> {
 fn read_archive(rt: &HostRuntime, path: &str) -> Result<Archive, Failure> {
     let heap = rt.alloc();
     let text = read_text(rt, path)?;
-    match Archive::parse(heap, text.as_str()) {
-        Ok(archive) => Ok(archive),
-        Err(e) => Err(Failure::Told(format!(in heap; "{path} is no archive: {e}")?)),
-    }
+    Archive::parse(heap, text.as_str()).try_map_err(|e| Failure::told(
+        heap,
+        format_args!("{path} is no archive: {e}"),
+    ))
 }
 
 fn read_text(rt: &HostRuntime, path: &str) -> Result<String, Failure> {
-    match fs::read_to_string(rt, path) {
-        Ok(text) => Ok(text),
-        Err(e) => Err(Failure::Told(format!(in rt.alloc(); "cannot read {path}: {e}")?)),
-    }
+    fs::read_to_string(rt, path).try_map_err(|e| Failure::told(
+        rt.alloc(),
+        format_args!("cannot read {path}: {e}"),
+    ))
 }

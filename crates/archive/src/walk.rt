@@ -58,8 +58,5 @@ fn read_step<S: Source>(heap: Global, source: &S, row: u32) -> Result<Step, Allo
 
 // A page's refusal in words.
 fn told(answer: Result<(), Refusal>) -> anyhow::Result<()> {
-    match answer {
-        Ok(()) => Ok(()),
-        Err(_) => Err(anyhow!("the archive does not fit its page")),
-    }
+    answer.map_err(|_| anyhow!("the archive does not fit its page"))
 }

@@ -1,20 +1,20 @@
--- A constant is the decimal number that its bytes write, rounded once; and it is clean.
+-- A constant that is not zero is the decimal number that its bytes write, rounded once; and it is clean.
 use Rattle.std.proofs.Common.{◌≡◌, ℕ, zero, suc, ◌+◌, ◌-◌, ◌*◌, ◌/◌, ◌%◌, ◌^◌, ◌<◌, ◌≤◌, Bool, true, false, not, T, eqb, leb, pos, Some, Option, sym, refl, ap, ◌∙◌, subst, inl, inr, le_trans, le_of_eq, le_of_lt, mul-le-mul_right, mul_assoc, add-sub_of_le, mul-le-mul, mul-le-mul_left, mul-pos, one-mul, mul-one, sub-add_cancel, arith, lit<, lit≤, pow-add}
 use native.Mathlib.Nat.{pow-le-pow_right}
-use lib.Ieee.{Float, nan, inf, fin, binary64, of_bits, of_int, round, mul, div, neg}
+use lib.Ieee.{Float, nan, inf, fin, binary64, of_int, round, mul, div, neg}
 use lib.Ieee.Back.{round_whole}
 use lib.Ieee.Exact.{HasValue}
 use lib.Ieee.Order.{round_mono}
 use lib.Ieee.Positive.{positive, positive-finite, positive_of_value, mul_at, between}
 use lib.Ieee.Scale.{round_same}
 use Rattle.std.specs.Bool.{then_some}
-use Rattle.std.proofs.lemmas.Bool.{and_parts, not-true, leb-true, leb-false, eqb-false, ne_eqb, cond-true, cond-false, cond_both, cases_Bool}
+use Rattle.std.proofs.lemmas.Bool.{and_parts, not-true, leb-true, leb-false, eqb-false, cond-true, cond-false, cases_Bool}
 use Rattle.constants.specs.declared.exponent.Exponent.{Exponent}
 use Rattle.constants.specs.declared.exponent.Exponent.TheVariants.{Plus, Minus}
 use Rattle.constants.specs.Digits.{digits, decimal, digits_lawful, whole_number}
 use Rattle.constants.specs.Exponents.{exponent, exponent_lawful}
 use Rattle.constants.specs.Powers.{power}
-use Rattle.constants.specs.Constants.{lawful, scaled, negative, signed, nonzero, plus_zero, value}
+use Rattle.constants.specs.Constants.{lawful, scaled, negative, signed, nonzero}
 use Rattle.constants.specs.Decimals.{numerator, denominator, Nearest, RoundedOnce}
 use Rattle.constants.specs.Cleanness.{clean, GivesClean}
 use Rattle.constants.proofs.Tens.{exact}
@@ -122,7 +122,7 @@ module _ (m : ℕ) (some : 0 < m) (few : m < 10 ^ 5) where
   signed_clean s e h = ap (λ (x : Float). clean (signed s x)) (size_rounded e h) ∙ positive_clean s _ (size_positive e h)
 
 -- ---- the number of five decimal digits
-number_some : (p2 p3 p4 : ℕ) → digits_lawful p2 p3 p4 ≡ true → (0 < whole_number p2 p3 p4) × (whole_number p2 p3 p4 < 10 ^ 5) × (eqb p4 0 ≡ false)
+number_some : (p2 p3 p4 : ℕ) → digits_lawful p2 p3 p4 ≡ true → (0 < whole_number p2 p3 p4) × (whole_number p2 p3 p4 < 10 ^ 5)
 number_some p2 p3 p4 t =
     let first = and_parts (not (eqb (p4 / 16) 0)) (decimal (digits p2 p3 p4)) t in
     let d1 = and_parts (leb (p4 / 16) 9) _ first.1 in
@@ -136,7 +136,7 @@ number_some p2 p3 p4 t =
     let h3 = leb-true (p3 % 16) 9 d3.0 in
     let h4 = leb-true (p2 / 16) 9 d4.0 in
     let h5 = leb-true (p2 % 16) 9 d5.0 in
-    (omega arith, omega arith, ne_eqb p4 0 (λ e. some (ap (λ (x : ℕ). x / 16) e)))
+    (omega arith, omega arith)
 
 -- ---- the value
 same_some : {x y : Float} → ◌≡◌ {A = Option Float} (Some x) (Some y) → x ≡ y
@@ -149,15 +149,12 @@ module _ (p1 p2 p3 p4 : ℕ) (t : lawful p1 p2 p3 p4 ≡ true) where
   parts : (digits_lawful p2 p3 p4 ≡ true) × (exponent_lawful (exponent p1 p4) ≡ true)
   parts = and_parts (digits_lawful p2 p3 p4) (exponent_lawful (exponent p1 p4)) t
 
-  number : (0 < whole_number p2 p3 p4) × (whole_number p2 p3 p4 < 10 ^ 5) × (eqb p4 0 ≡ false)
+  number : (0 < whole_number p2 p3 p4) × (whole_number p2 p3 p4 < 10 ^ 5)
   number = number_some p2 p3 p4 parts.0
 
-  value_is : value p1 p2 p3 p4 ≡ Some (signed (negative p1) (scaled (whole_number p2 p3 p4) (exponent p1 p4)))
-  value_is = cond-false (eqb p4 0) _ _ number.2 ∙ when_true (signed (negative p1) (scaled (whole_number p2 p3 p4) (exponent p1 p4))) t
-
-  pub rounded_once : (r : Option Float) → r ≡ value p1 p2 p3 p4 → RoundedOnce p1 p2 p3 p4 r
+  pub rounded_once : (r : Option Float) → r ≡ nonzero p1 p2 p3 p4 → RoundedOnce p1 p2 p3 p4 r
   rounded_once r e =
-      let is = e ∙ value_is ∙ ap Some (signed_rounded (whole_number p2 p3 p4) number.0 number.1 (negative p1) (exponent p1 p4) parts.1) in
+      let is = e ∙ when_true (signed (negative p1) (scaled (whole_number p2 p3 p4) (exponent p1 p4))) t ∙ ap Some (signed_rounded (whole_number p2 p3 p4) number.0 number.1 (negative p1) (exponent p1 p4) parts.1) in
       record {
         rounded = is;
         nearest = λ x given.
@@ -172,8 +169,5 @@ clean_when : (b : Bool) (x : Float) → (b ≡ true → clean x ≡ true) → Gi
 clean_when true x h = h refl
 clean_when false x h = tt
 
-pub gives_clean : (p1 p2 p3 p4 : ℕ) (r : Option Float) → r ≡ value p1 p2 p3 p4 → GivesClean r
-unfolding of_bits
-gives_clean p1 p2 p3 p4 r e =
-    subst GivesClean (sym e)
-    (cond_both (eqb p4 0) (Some plus_zero) (nonzero p1 p2 p3 p4) GivesClean (λ _. refl) (λ _. clean_when (lawful p1 p2 p3 p4) _ (clean_here p1 p2 p3 p4)))
+pub gives_clean : (p1 p2 p3 p4 : ℕ) (r : Option Float) → r ≡ nonzero p1 p2 p3 p4 → GivesClean r
+gives_clean p1 p2 p3 p4 r e = subst GivesClean (sym e) (clean_when (lawful p1 p2 p3 p4) _ (clean_here p1 p2 p3 p4))

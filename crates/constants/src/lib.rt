@@ -1,11 +1,10 @@
 // Constants of a program: the binary64 number that four operand bytes stand for.
 #![tactic(auto)]
 
-mod decoding;
-mod digits;
 mod exponent;
+mod operand_bytes;
 mod powers;
 #[cfg(test)]
 mod tests;
 
-pub use decoding::constant;
+pub use operand_bytes::OperandBytes;

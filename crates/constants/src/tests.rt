@@ -1,5 +1,5 @@
 // Constants by example: expected values are decimal literals, which the compiler rounds once.
-use crate::constant;
+use crate::OperandBytes;
 use std::test::Fail;
 
 #[test]
@@ -39,14 +39,21 @@ fn bytes_and_their_values(rt: HostRuntime) {
     ];
     for (bytes, expected) in cases {
         let [p1, p2, p3, p4] = u32::to_be_bytes(bytes);
-        assert_eq!(rt; constant(p1, p2, p3, p4), expected, "{bytes:08X}");
+        let operand = OperandBytes { p1, p2, p3, p4 };
+        assert_eq!(rt; operand.constant(), expected, "{bytes:08X}");
     }
 }
 
 // Equality does not tell the two zeros apart; their reciprocals do.
 #[test]
 fn zero_is_positive(rt: HostRuntime) -> Result<(), Fail> {
-    let zero = constant(0xC1, 0xFF, 0xAB, 0x00).ok_or("none")?;
+    let operand = OperandBytes {
+        p1: 0xC1,
+        p2: 0xFF,
+        p3: 0xAB,
+        p4: 0x00,
+    };
+    let zero = operand.constant().ok_or("none")?;
     assert!(rt; 1.0 / zero > 0.0);
     Ok(())
 }

@@ -11,23 +11,23 @@ module _ (test : ℕ → Option LoadingCode) where
 
   pub found_none : (n : ℕ) → first_found test n ≡ None → test n ≡ None → first_found test (n + 1) ≡ None
   unfolding first_found
-  found_none n before here = ap (first_found test) (add-one n) ∙ (ap (λ o. or_else o (test n) n) before ∙ ap (λ o. or_else None o n) here)
+  found_none n before here = rw (add-one, before, here) refl
 
   found_stays : (found : LoadingCode × ℕ) (n k : ℕ) → first_found test n ≡ Some found → first_found test (k + n) ≡ Some found
   unfolding first_found
-  found_stays found n zero h = ap (first_found test) (zero-add n) ∙ h
-  found_stays found n (suc k) h = ap (first_found test) (suc-add k n) ∙ ap (λ o. or_else o (test (k + n)) (k + n)) (found_stays found n k h)
+  found_stays found n zero h = rw zero-add h
+  found_stays found n (suc k) h = rw (suc-add, found_stays found n k h) refl
 
   pub found_here : (n total : ℕ) (code : LoadingCode) → n < total → first_found test n ≡ None → test n ≡ Some code → first_found test total ≡ Some (code, n)
   unfolding first_found
   found_here n total code lt before here =
-      let now : first_found test (suc n) ≡ Some (code, n) = ap (λ o. or_else o (test n) n) before ∙ ap (λ o. or_else None o n) here in
+      let now : first_found test (suc n) ≡ Some (code, n) = rw (before, here) refl in
       let e : total - suc n + suc n ≡ total = omega arith in
       sym (ap (first_found test) e) ∙ found_stays (code, n) (suc n) (total - suc n) now
 
 unfound : (o : Option (LoadingCode × ℕ)) (here : Option LoadingCode) (n : ℕ) → or_else o here n ≡ None → (o ≡ None) × (here ≡ None)
-unfound (Some found) here n h = absurd (let z : ◌≡◌ {A = ℕ} 0 1 = cc in omega arith)
-unfound None (Some code) n h = absurd (let z : ◌≡◌ {A = ℕ} 0 1 = cc in omega arith)
+unfound (Some found) here n h = absurd (cc)
+unfound None (Some code) n h = absurd (cc)
 unfound None None n h = (refl, refl)
 
 -- where nothing is found, no instruction has anything

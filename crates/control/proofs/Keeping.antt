@@ -1,6 +1,6 @@
 -- What an instruction that breaks no rule says about where control can go from it.
-use Rattle.std.proofs.Common.{◌≡◌, ℕ, zero, suc, ◌+◌, ◌<◌, ◌≤◌, max, Bool, true, false, cond, not, eqb, List, [], ◌∷◌, length, Some, None, Option, sym, refl, ap, ◌∙◌, subst, ⊎_elim, add-one, arith}
-use Rattle.std.proofs.lemmas.Bool.{cases_Bool, eqb-true, eqb-false, leb-false, eq-eqb, or_parts, or_left, or_right, not-false, cond-true, cond-false}
+use Rattle.std.proofs.Common.{◌≡◌, ℕ, zero, suc, ◌+◌, ◌<◌, ◌≤◌, Bool, true, false, cond, not, eqb, List, [], ◌∷◌, length, Some, None, Option, sym, refl, ap, ◌∙◌, subst, add-one, arith}
+use Rattle.std.proofs.lemmas.Bool.{eqb-true, eqb-false, leb-false, eq-eqb, or_parts, or_left, or_right, not-false, cond_both}
 use Rattle.control.specs.declared.code.LoadingCode.{LoadingCode}
 use Rattle.control.specs.declared.control.Control.{Control}
 use Rattle.control.specs.declared.control.Control.TheVariants.{Plain, Push, Pop, JumpIf, Jump, Call, Return}
@@ -21,7 +21,7 @@ AllPass [] = Unit {0}
 AllPass (c ∷ cs) = (c.0 ≡ false) × AllPass cs
 
 pass_one : (t : Bool) (code : LoadingCode) (rest : Option LoadingCode) → cond t (Some code) rest ≡ None → (t ≡ false) × (rest ≡ None)
-pass_one true code rest h = absurd (let z : ◌≡◌ {A = ℕ} 0 1 = cc in omega arith)
+pass_one true code rest h = absurd (cc)
 pass_one false code rest h = (refl, h)
 
 pub pass_all : (cs : List Check) → first_of cs ≡ None → AllPass cs
@@ -116,20 +116,13 @@ module _ (text : List Control) (keeps : KeepsRules text) where
       let below = low n (omega arith) in
       let asked : (s : ℕ) → asked_more (at text n) (ranks text n) s ≤ 8 =
       λ s.
-      ⊎_elim
+      cond_both (calls (at text n) s) _ _ (λ r. r ≤ 8)
       (λ c.
       let call = call_from (at text n) s c in
-      let well = call_keeps text n h s (judged_at text n (Call s) call (keeps n h)) in
-      let ne = well.shallow in
-      omega (arith, below.0, below.1 s, cond-true (calls (at text n) s) (max ((ranks text n).asked s) (1 + (ranks text n).here)) ((ranks text n).asked s) c))
-      (λ c. omega (arith, below.1 s, cond-false (calls (at text n) s) (max ((ranks text n).asked s) (1 + (ranks text n).here)) ((ranks text n).asked s) c))
-      (cases_Bool (calls (at text n) s)) in (
-        ⊎_elim
-            (λ b. omega (arith, asked (suc n), cond-true (starts text (suc n)) (asked_more (at text n) (ranks text n) (suc n)) (ranks text n).here b))
-            (λ b. omega (arith, below.0, cond-false (starts text (suc n)) (asked_more (at text n) (ranks text n) (suc n)) (ranks text n).here b))
-            (cases_Bool (starts text (suc n))),
-        asked,
-      )
+      let shallow = (call_keeps text n h s (judged_at text n (Call s) call (keeps n h))).shallow in
+      omega (arith, below.0, below.1 s))
+      (λ _. omega (arith, below.1 s)) in
+      (cond_both (starts text (suc n)) _ _ (λ r. r ≤ 8) (λ _. asked (suc n)) (λ _. below.0), asked)
 
   pub low_rank : (n : ℕ) → n < length text → rank text n ≤ 8
   unfolding Low

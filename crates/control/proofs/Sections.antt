@@ -1,8 +1,8 @@
 -- Sections and ranks are what the words say.
 use Rattle.std.proofs.Common.{◌≡◌, ℕ, zero, suc, ◌+◌, ◌<◌, ◌≤◌, max, true, false, ◌⊎◌, List, sym, refl, ap, ◌∙◌, subst, inl, inr, ⊎_elim, arith}
-use Rattle.std.proofs.lemmas.Bool.{cases_Bool, cases_eq, cases_lt, eqb-true, eq-eqb, cond-true, cond-false, both_ways}
+use Rattle.std.proofs.lemmas.Bool.{cases_Bool, cases_eq, cases_lt, eqb-true, eq-eqb, cond-true, cond-false, cond_both, both_ways}
 use Rattle.control.specs.declared.control.Control.{Control}
-use Rattle.control.specs.declared.control.Control.TheVariants.{Plain, Push, Pop, JumpIf, Jump, Call, Return, End}
+use Rattle.control.specs.declared.control.Control.TheVariants.{Call}
 use Rattle.control.specs.Texts.{at, calls, starts, section, asked_more, ranks, rank}
 use Rattle.control.specs.Promises.{Section, Ranked, Words}
 
@@ -74,20 +74,13 @@ calls_self s = eq-eqb s s refl
 
 asked_grows : (text : List Control) (n s : ℕ) → (ranks text n).asked s ≤ (ranks text (suc n)).asked s
 asked_grows text n s =
-    subst (λ x. (ranks text n).asked s ≤ x) (sym (asked_step text n s))
-    (⊎_elim (λ h. omega (arith, cond-true (calls (at text n) s) (max ((ranks text n).asked s) (1 + (ranks text n).here)) ((ranks text n).asked s) h))
-    (λ h. omega (arith, cond-false (calls (at text n) s) (max ((ranks text n).asked s) (1 + (ranks text n).here)) ((ranks text n).asked s) h))
-    (cases_Bool (calls (at text n) s)))
+    rw asked_step (cond_both (calls (at text n) s) _ _ (λ r. (ranks text n).asked s ≤ r) (λ _. omega arith) (λ _. omega arith))
 
 pub asked_by_call : (text : List Control) (n s m : ℕ) → n < m → at text n ≡ Call s → rank text n + 1 ≤ (ranks text m).asked s
 asked_by_call text n s zero lt e = absurd (omega arith)
 asked_by_call text n s (suc m) lt e =
     ⊎_elim
-    (λ (same : n ≡ m).
-    let here : rank text m + 1 ≤ (ranks text (suc m)).asked s =
-    let c : calls (at text m) s ≡ true = ap (λ k. calls (at text k) s) (sym same) ∙ (ap (λ x. calls x s) e ∙ calls_self s) in
-    omega (arith, asked_step text m s, cond-true (calls (at text m) s) (max ((ranks text m).asked s) (1 + (ranks text m).here)) ((ranks text m).asked s) c) in
-    subst (λ k. rank text k + 1 ≤ (ranks text (suc m)).asked s) (sym same) here)
+    (λ (same : n ≡ m). rw (← same, asked_step text n s, e, calls_self s) (omega arith))
     (λ apart. omega (arith, asked_by_call text n s m (omega arith) e, asked_grows text m s))
     (cases_eq n m)
 
@@ -97,13 +90,7 @@ Asked text s m = ((ranks text m).asked s ≡ 1) ⊎ ((n : ℕ) × (n < m) × (at
 
 pub call_from : (c : Control) (s : ℕ) → calls c s ≡ true → c ≡ Call s
 call_from (Call k) s h = ap Call (eqb-true k s h)
-call_from Plain s h = absurd (both_ways false refl h)
-call_from Push s h = absurd (both_ways false refl h)
-call_from Pop s h = absurd (both_ways false refl h)
-call_from (JumpIf k) s h = absurd (both_ways false refl h)
-call_from (Jump k) s h = absurd (both_ways false refl h)
-call_from Return s h = absurd (both_ways false refl h)
-call_from End s h = absurd (both_ways false refl h)
+call_from _ s h = absurd (both_ways false refl h)
 
 asked_start : (text : List Control) (s : ℕ) → (ranks text 0).asked s ≡ 1
 unfolding ranks

@@ -130,9 +130,9 @@ module _ (text : List Control) (inside : Inside text) (keeps : KeepsRules text) 
   steps_below h cs = omega (arith, steps_within cs start (good_start text inside keeps h))
 
 bound_by : (t u : Bool) (w b : ℕ) → cond t None (cond u (Some w) None) ≡ Some b → (t ≡ false) × (w ≡ b)
-bound_by true u w b h = absurd (let z : ◌≡◌ {A = ℕ} 0 1 = cc in omega arith)
+bound_by true u w b h = absurd (cc)
 bound_by false true w b h = (refl, cc)
-bound_by false false w b h = absurd (let z : ◌≡◌ {A = ℕ} 0 1 = cc in omega arith)
+bound_by false false w b h = absurd (cc)
 
 pub within_bound : (text : List Control) → 0 < length text → Inside text → KeepsRules text → WithinBound text
 within_bound text some inside keeps b e cs =

@@ -1,38 +1,27 @@
 // Why loading refuses a program.
-ghost use Rattle.std.specs.Prelude.{◌≡◌};
-ghost use Rattle.control.specs.Codes.{number};
-
-#[derive(Clone, Copy, PartialEq, Eq, Debug)]
+#[derive(Clone, Copy, Debug, PartialEq, Eq)]
 pub enum LoadingCode {
-    UnknownOpcode,
-    BadOperand,
-    PushAtEight,
-    PopAtZero,
-    CallTooDeep,
-    ReturnOutside,
-    BadAddress,
-    DepthDiffers,
-    LeavesSection,
-    SectionRunsOn,
-    CallsBack,
+    UnknownOpcode = 0x01,
+    BadOperand = 0x02,
+    PushAtEight = 0x03,
+    PopAtZero = 0x04,
+    CallTooDeep = 0x05,
+    ReturnOutside = 0x06,
+    BadAddress = 0x08,
+    DepthDiffers = 0x11,
+    LeavesSection = 0x12,
+    SectionRunsOn = 0x13,
+    CallsBack = 0x14,
 }
 
-impl LoadingCode {
-    pub fn number(&self) -> u8
-        ensures { result ≡ number self.now }
-    {
-        match self {
-            LoadingCode::UnknownOpcode => 0x01,
-            LoadingCode::BadOperand => 0x02,
-            LoadingCode::PushAtEight => 0x03,
-            LoadingCode::PopAtZero => 0x04,
-            LoadingCode::CallTooDeep => 0x05,
-            LoadingCode::ReturnOutside => 0x06,
-            LoadingCode::BadAddress => 0x08,
-            LoadingCode::DepthDiffers => 0x11,
-            LoadingCode::LeavesSection => 0x12,
-            LoadingCode::SectionRunsOn => 0x13,
-            LoadingCode::CallsBack => 0x14,
-        }
+// The number by which a refusal is known outside.
+impl From<LoadingCode> for u8 {
+    ghost use Rattle.std.specs.Prelude.{◌≡◌};
+    ghost use Rattle.control.specs.Codes.{number};
+
+    ghost from_gives = { λ code byte. byte ≡ number code };
+
+    fn from(code: LoadingCode) -> u8 {
+        code as u8
     }
 }

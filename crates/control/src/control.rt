@@ -1,7 +1,8 @@
 // What one instruction does to the flow of control. Addresses are instruction numbers.
-#[derive(Clone, Copy, PartialEq, Eq, Debug)]
+#[derive(Clone, Copy, Debug, Default, PartialEq, Eq)]
 pub enum Control {
     // Goes on with the next instruction.
+    #[default]
     Plain,
     // Keeps a bit on the bit stack, and goes on.
     Push,

@@ -1,5 +1,5 @@
 // Where an instruction stands in its text.
-#[derive(Clone, Copy)]
+#[derive(Clone, Copy, Debug, Default, PartialEq, Eq)]
 pub struct Place {
     pub number: u16,
     // Counted from the ground level.

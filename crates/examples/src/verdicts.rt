@@ -1,13 +1,13 @@
 // What loading says of the example images.
-ghost use Rattle.std.specs.Prelude.{◌≡◌, [], ◌∷◌, Some};
+ghost use Rattle.std.specs.Prelude.{◌≡◌, [], ◌∷◌, Some, Ok, Err};
 ghost use Rattle.control.specs.declared.code.LoadingCode.TheVariants.{PushAtEight};
-ghost use Rattle.loading.specs.declared.verdict.Verdict.TheVariants.{Refused, Accepted};
+ghost use Rattle.loading.specs.declared.error.LoadError.TheVariants.{Breaks};
 ghost use Rattle.loading.specs.Examples.{Examples};
 
 use loading::{Verdict, judge_image};
 use records::Layout;
 
-const ABSENT: [Layout; 8] = [Layout { length: 0 }; 8];
+const ABSENT: [Layout; 8] = [Layout::ABSENT; 8];
 
 // A call of 2, END, a return.
 const CALL_AND_RETURN: &[u8] = b"\x3a\x02\0\0\0\xff\0\0\0\0\x3b\0\0\0\0";
@@ -25,26 +25,11 @@ const NINE_PUSHES: &[u8] = b"\
 
 pub fn example_verdicts() -> [Verdict; 3]
     ensures examples { Examples }
-    ensures verdicts { result ≡ (Accepted (Some 3) ∷ Accepted (Some 9) ∷ Refused PushAtEight 8 ∷ []) }
+    ensures verdicts { result ≡ (Ok (Some 3) ∷ Ok (Some 9) ∷ Err (Breaks PushAtEight 8) ∷ []) }
 {
-    [call_and_return(), eight_pushes(), nine_pushes()]
-}
-
-fn call_and_return() -> Verdict
-    ensures examples { Examples }
-    ensures verdict { result ≡ Accepted (Some 3) }
-{
-    judge_image(CALL_AND_RETURN, &ABSENT)
-}
-
-fn eight_pushes() -> Verdict
-    ensures { result ≡ Accepted (Some 9) }
-{
-    judge_image(EIGHT_PUSHES, &ABSENT)
-}
-
-fn nine_pushes() -> Verdict
-    ensures { result ≡ Refused PushAtEight 8 }
-{
-    judge_image(NINE_PUSHES, &ABSENT)
+    [
+        judge_image(CALL_AND_RETURN, &ABSENT),
+        judge_image(EIGHT_PUSHES, &ABSENT),
+        judge_image(NINE_PUSHES, &ABSENT),
+    ]
 }

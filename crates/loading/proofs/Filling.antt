@@ -1,37 +1,16 @@
--- Instructions that are decoded one after another, and what an accepted image has.
-use Rattle.std.proofs.Common.{◌≡◌, ℕ, zero, suc, ◌+◌, ◌<◌, true, List, length, get_or, set, replicate, Option, sym, refl, ap, ◌∙◌, subst, ⊎_elim, arith}
-use Rattle.std.proofs.lemmas.List.{get_or-set_same, get_or-set_other}
-use Rattle.std.proofs.lemmas.Bool.{cases_Bool, cases_eq}
+-- A decoded instruction, and the bytes that it stands for.
+use Rattle.std.proofs.Common.{◌≡◌, ℕ, true, false, leb, List, Ok, Err, Result, ap, ◌∙◌, subst, ⊎_elim, arith}
+use Rattle.std.proofs.lemmas.Bool.{cases_Bool, both_ways, and_parts, and_from, le-leb, leb-true, or_left}
 use Rattle.records.specs.declared.layout.Layout.{Layout}
 use Rattle.loading.specs.declared.instruction.Instruction.{Instruction}
-use Rattle.loading.specs.declared.verdict.Verdict.TheVariants.{Accepted}
-use Rattle.opcodes.specs.Families.{known}
+use Rattle.std.specs.Result.{result_unwrap_or}
+use Rattle.opcodes.specs.declared.naming.UnknownOpcode.{UnknownOpcode}
+use Rattle.opcodes.specs.Named.{Decodes}
+use Rattle.opcodes.specs.declared.opcode.Opcode.{Opcode}
+use Rattle.opcodes.specs.Families.{known, between, takes_address}
 use Rattle.opcodes.specs.Numbers.{number}
-use Rattle.loading.specs.Images.{lawful_length, opcode_at, operand_bytes}
-use Rattle.loading.specs.Verdicts.{verdict}
-use Rattle.loading.specs.Decoded.{operand_for, nothing, StandsFor, Decodes}
-use Rattle.loading.proofs.Passing.{bad_length}
-
-pub decodes_none : (layouts : List Layout) (image : List ℕ) (before : List Instruction) → Decodes layouts image before before 0
-decodes_none layouts image before = record { decoded = λ n lt. absurd (omega arith); kept = λ n le. refl }
-
-pub decodes_more : (layouts : List Layout) (image : List ℕ) (before after : List Instruction) (n : ℕ) (i : Instruction) → n < length after
-    → Decodes layouts image before after n → StandsFor layouts image n i → Decodes layouts image before (set after n i) (n + 1)
-decodes_more layouts image before after n i lt d here =
-    record {
-      decoded = λ k below.
-          ⊎_elim
-          (λ (same : k ≡ n). subst (λ j. StandsFor layouts image j (get_or (set after n i) j nothing)) (sym same)
-          (subst (StandsFor layouts image n) (sym (get_or-set_same after n i nothing lt)) here))
-          (λ apart. subst (StandsFor layouts image k) (sym (get_or-set_other after n k i nothing apart)) (d.decoded k (omega arith)))
-          (cases_eq k n);
-      kept = λ k above. get_or-set_other after n k i nothing (λ same. omega arith) ∙ d.kept k (omega arith);
-    }
-
--- an accepted image has a lawful length
-pub accepted_lawful : (layouts : List Layout) (image : List ℕ) (limit : Option ℕ) → Accepted limit ≡ verdict layouts image → lawful_length image ≡ true
-accepted_lawful layouts image limit e =
-    ⊎_elim (λ h. h) (λ h. let bad = bad_length layouts image h in absurd (let z : ◌≡◌ {A = ℕ} 0 1 = cc in omega arith)) (cases_Bool (lawful_length image))
+use Rattle.loading.specs.Images.{opcode_at, operand_bytes}
+use Rattle.loading.specs.Decoded.{operand_for, StandsFor}
 
 pub stands : (layouts : List Layout) (image : List ℕ) (n x : ℕ) (bytes : List ℕ) (i : Instruction) → x ≡ opcode_at image n → bytes ≡ operand_bytes image n
     → (known x ≡ true → number i.opcode ≡ x) → i.operand ≡ operand_for layouts x bytes → StandsFor layouts image n i
@@ -40,7 +19,19 @@ stands layouts image n x bytes i ex eb named operand = (
   operand ∙ (ap (λ y. operand_for layouts y bytes) ex ∙ ap (λ b. operand_for layouts (opcode_at image n) b) eb),
 )
 
-pub all_alike : {X : Type 0} (k : ℕ) (x : X) (n : ℕ) → get_or (replicate k x) n x ≡ x
-all_alike zero x n = refl
-all_alike (suc k) x zero = refl
-all_alike (suc k) x (suc n) = all_alike k x n
+-- a known opcode's own name, whatever stands in for an unknown one
+pub named_or : (r : Result Opcode UnknownOpcode) (x : ℕ) (other : Opcode) → Decodes x r → known x ≡ true → number (result_unwrap_or r other) ≡ x
+named_or (Ok p) x other h t = h.1
+named_or (Err e) x other h t = absurd (both_ways _ h.0 t)
+
+-- an unknown opcode takes no address
+pub unaddressed : (x : ℕ) → known x ≡ false → takes_address x ≡ false
+unaddressed x h =
+    ⊎_elim
+    (λ t.
+    let p : (leb 0x33 x ≡ true) × (leb x 0x3A ≡ true) = and_parts (leb 0x33 x) (leb x 0x3A) t in
+    let low : between 0x00 0x3B x ≡ true =
+    and_from _ _ (le-leb 0 x (omega arith)) (le-leb x 0x3B (omega (arith, leb-true x 0x3A p.1))) in
+    absurd (both_ways _ h (or_left _ _ (or_left _ _ (or_left _ _ low)))))
+    (λ f. f)
+    (cases_Bool (takes_address x))

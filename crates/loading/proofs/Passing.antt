@@ -1,8 +1,7 @@
 -- From instructions that keep their own rules to the verdict on the image.
-use Rattle.std.proofs.Common.{◌≡◌, ℕ, zero, suc, ◌+◌, ◌%◌, ◌<◌, ◌≤◌, Bool, true, false, cond, not, ◌&&◌, eqb, ltb, leb, List, map, length, get_or, take, Some, None, Ok, Err, Option, sym, refl, ap, ◌∙◌, subst, inl, inr, arith}
+use Rattle.std.proofs.Common.{◌≡◌, ℕ, zero, suc, ◌+◌, ◌%◌, ◌<◌, ◌≤◌, Bool, true, false, cond, not, ◌&&◌, eqb, ltb, leb, List, map, length, get_or, Some, None, Ok, Err, Option, Result, sym, refl, ap, ◌∙◌, subst, inl, inr, arith}
 use Rattle.std.specs.List.{range_with_len}
 use Rattle.std.proofs.lemmas.List.FromFn.{length-map-range_with_len, fill_by_all}
-use Rattle.std.proofs.lemmas.List.{length-take-le, get_or-take}
 use Rattle.std.proofs.lemmas.Bool.{and_parts, and_from, leb-true, le-leb, ltb-true, lt-ltb, eqb-true, not-false, cond_both, both_ways}
 use Rattle.records.specs.declared.layout.Layout.{Layout}
 use Rattle.control.specs.declared.code.LoadingCode.{LoadingCode}
@@ -17,15 +16,17 @@ use Rattle.control.proofs.Keeping.{pass_all}
 use Rattle.control.proofs.Finding.{found_nowhere, found_is}
 use Rattle.control.proofs.Sections.{words}
 use Rattle.control.proofs.Wording.{weights_follow}
-use Rattle.rules.specs.declared.judge.Judgment.{Judgment}
-use Rattle.rules.specs.declared.judge.Judgment.TheVariants.{Malformed, Breaks, Keeps}
+use Rattle.rules.specs.declared.error.TextError.{TextError}
+use Rattle.rules.specs.declared.error.TextError.TheVariants.{Malformed, Breaks}
 use Rattle.rules.specs.Judgments as judging
 use Rattle.rules.specs.Judgments.{all_below, formed, told, judgment, Trusted}
 use Rattle.opcodes.specs.Families.{between, known, takes_address}
-use Rattle.loading.specs.declared.verdict.Verdict.TheVariants.{BadLength, Refused}
+use Rattle.loading.specs.declared.error.LoadError.TheVariants.{BadLength}
+use Rattle.loading.specs.declared.error.LoadError.{LoadError}
+use Rattle.loading.specs.declared.error.LoadError as errors
 use Rattle.loading.specs.Images.{lawful_length, count, opcode_at, operand_bytes}
 use Rattle.loading.specs.Instructions.{address, fits, control_of, checks_alone, answered, alone}
-use Rattle.loading.specs.Verdicts.{broken_alone, kind_at, text, second, first, verdict, from_judgment}
+use Rattle.loading.specs.Verdicts.{Verdict, FailsAlone, broken_alone, kind_at, text, second, first, verdict, from_judgment}
 use Rattle.loading.specs.Meaning.{Says}
 use Rattle.loading.specs.Trust.{StandsWell, TrustedImage}
 
@@ -63,11 +64,9 @@ module _ (layouts : List Layout) (image : List ℕ) (n x : ℕ) (bytes : List �
   alone_err e h = answered_err (broken_alone layouts image n) (kind_at image n) e (h ∙ at_image)
 
 -- the noted kinds are the image's control text
-pub kinds_are : (image : List ℕ) (kinds : List Control) → length kinds ≡ 1024 → count image ≤ 1024
-    → ((k : ℕ) → k < count image → get_or kinds k Plain ≡ kind_at image k) → take (count image) kinds ≡ text image
-kinds_are image kinds e few h =
-    fill_by_all (kind_at image) (take (count image) kinds) (count image) Plain (length-take-le (count image) kinds (omega arith))
-    (λ k lt. get_or-take (count image) kinds k Plain lt ∙ h k lt)
+pub kinds_are : (image : List ℕ) (kinds : List Control) → length kinds ≡ count image
+    → ((k : ℕ) → k < count image → get_or kinds k Plain ≡ kind_at image k) → kinds ≡ text image
+kinds_are image kinds e h = fill_by_all (kind_at image) kinds (count image) Plain e h
 
 text_length : (image : List ℕ) → length (text image) ≡ count image
 text_length image = length-map-range_with_len (kind_at image) 0 (count image)
@@ -141,29 +140,29 @@ module _ (layouts : List Layout) (image : List ℕ) (s : Sized image) (own : fir
   from_told (Some found) limit = refl
   from_told None limit = refl
 
-  pub verdict_is : lawful_length image ≡ true → from_judgment (judgment (text image)) ≡ verdict layouts image
+  verdict_is : lawful_length image ≡ true → from_judgment (judgment (text image)) ≡ verdict layouts image
   unfolding verdict
   verdict_is lawful =
       let t = text image in
-      ap (λ b. from_judgment (cond b (told (first_broken t (length t)) (bound t)) Malformed)) text_formed
+      ap (λ b. from_judgment (cond b (told (first_broken t (length t)) (bound t)) (Err Malformed))) text_formed
       ∙ (from_told (first_broken t (length t)) (bound t)
       ∙ (ap (λ n. second (first_broken t n) (bound t)) (text_length image)
       ∙ (sym (ap (λ o. first o (second (first_broken t (count image)) (bound t))) own)
-      ∙ sym (ap (λ b. cond b (first (first_found (broken_alone layouts image) (count image)) (second (first_broken t (count image)) (bound t))) BadLength) lawful))))
+      ∙ sym (ap (λ b. cond b (first (first_found (broken_alone layouts image) (count image)) (second (first_broken t (count image)) (bound t))) (Err BadLength)) lawful))))
 
   none_alone : Nowhere (broken_alone layouts image) (count image)
   none_alone = found_nowhere (broken_alone layouts image) (count image) own
 
-  pub says_image : lawful_length image ≡ true → (j : Judgment) → judging.Says (text image) j → Says layouts image (from_judgment j)
-  says_image lawful Malformed says = absurd (both_ways _ says text_formed)
-  says_image lawful (Breaks code n) says = record {
+  says_image : lawful_length image ≡ true → (j : Result (Option ℕ) TextError) → judging.Says (text image) j → Says layouts image (from_judgment j)
+  says_image lawful (Err Malformed) says = absurd (both_ways _ says text_formed)
+  says_image lawful (Err (Breaks code n)) says = record {
     lawful = lawful;
     first = inr (none_alone, subst (λ total. FirstAt (broken (text image)) total code n) (text_length image) says.0);
     words = says.1;
     weights = says.2;
     numbered = refl;
   }
-  says_image lawful (Keeps limit) says = record {
+  says_image lawful (Ok limit) says = record {
     lawful = lawful;
     alone = none_alone;
     together = λ n lt. says.0 n (omega (arith, text_length image));
@@ -181,26 +180,26 @@ module _ (layouts : List Layout) (image : List ℕ) (s : Sized image) (own : fir
   stands_well Ends h = tt
   stands_well (Faults e) h = h
 
-  pub trusted_image : (j : Judgment) → Trusted (text image) j → TrustedImage layouts image (from_judgment j)
-  trusted_image Malformed h = tt
-  trusted_image (Breaks code n) h = tt
-  trusted_image (Keeps limit) h = ((λ cs. stands_well (run (text image) (Goes start) cs) (h.0 cs)), h.1)
+  trusted_image : (j : Result (Option ℕ) TextError) → Trusted (text image) j → TrustedImage layouts image (from_judgment j)
+  trusted_image (Err Malformed) h = tt
+  trusted_image (Err (Breaks code n)) h = tt
+  trusted_image (Ok limit) h = ((λ cs. stands_well (run (text image) (Goes start) cs) (h.0 cs)), h.1)
 
 -- the two verdicts that come early
-pub bad_length : (layouts : List Layout) (image : List ℕ) → lawful_length image ≡ false → BadLength ≡ verdict layouts image
+pub bad_length : (layouts : List Layout) (image : List ℕ) → lawful_length image ≡ false → Err BadLength ≡ verdict layouts image
 unfolding verdict
 bad_length layouts image h =
-    sym (ap (λ b. cond b (first (first_found (broken_alone layouts image) (count image)) (second (first_broken (text image) (count image)) (bound (text image)))) BadLength) h)
+    sym (ap (λ b. cond b (first (first_found (broken_alone layouts image) (count image)) (second (first_broken (text image) (count image)) (bound (text image)))) (Err BadLength)) h)
 
-pub refused_alone : (layouts : List Layout) (image : List ℕ) (code : LoadingCode) (n : ℕ) → lawful_length image ≡ true
-    → first_found (broken_alone layouts image) (count image) ≡ Some (code, n) → Refused code n ≡ verdict layouts image
+refused_alone : (layouts : List Layout) (image : List ℕ) (code : LoadingCode) (n : ℕ) → lawful_length image ≡ true
+    → first_found (broken_alone layouts image) (count image) ≡ Some (code, n) → Err (errors.TheVariants.Breaks code n) ≡ verdict layouts image
 unfolding verdict
 refused_alone layouts image code n lawful h =
-    sym (ap (λ b. cond b (first (first_found (broken_alone layouts image) (count image)) (second (first_broken (text image) (count image)) (bound (text image)))) BadLength) lawful
+    sym (ap (λ b. cond b (first (first_found (broken_alone layouts image) (count image)) (second (first_broken (text image) (count image)) (bound (text image)))) (Err BadLength)) lawful
     ∙ ap (λ o. first o (second (first_broken (text image) (count image)) (bound (text image)))) h)
 
-pub says_alone : (layouts : List Layout) (image : List ℕ) (code : LoadingCode) (n : ℕ) → lawful_length image ≡ true
-    → first_found (broken_alone layouts image) (count image) ≡ Some (code, n) → Says layouts image (Refused code n)
+says_alone : (layouts : List Layout) (image : List ℕ) (code : LoadingCode) (n : ℕ) → lawful_length image ≡ true
+    → first_found (broken_alone layouts image) (count image) ≡ Some (code, n) → Says layouts image (Err (errors.TheVariants.Breaks code n))
 says_alone layouts image code n lawful h = record {
   lawful = lawful;
   first = inl (subst (Found (broken_alone layouts image) (count image)) h (found_is (broken_alone layouts image) (count image)));
@@ -208,3 +207,30 @@ says_alone layouts image code n lawful h = record {
   weights = weights_follow (text image);
   numbered = refl;
 }
+
+-- what is due of a verdict
+pub record Told (layouts : List Layout) (image : List ℕ) (v : Verdict) : Type 0 where
+  pub value : v ≡ verdict layouts image
+  pub says : Says layouts image v
+  pub trusted : TrustedImage layouts image v
+
+pub refused_as : (layouts : List Layout) (image : List ℕ) (e : LoadError) → lawful_length image ≡ true → FailsAlone layouts image e
+    → Told layouts image (Err e)
+refused_as layouts image BadLength lawful h = absurd h
+refused_as layouts image (errors.TheVariants.Breaks code n) lawful h = record {
+  value = refused_alone layouts image code n lawful h;
+  says = says_alone layouts image code n lawful h;
+  trusted = tt;
+}
+
+-- and where none does, by what the control text is told
+pub judged_as : (layouts : List Layout) (image : List ℕ) (kinds : List Control) (j : Result (Option ℕ) TextError) → lawful_length image ≡ true
+    → first_found (broken_alone layouts image) (count image) ≡ None → kinds ≡ text image
+    → j ≡ judgment kinds → judging.Says kinds j → Trusted kinds j → Told layouts image (from_judgment j)
+judged_as layouts image kinds j lawful own e value says trusted =
+    let s = sized image lawful in
+    record {
+      value = ap from_judgment (value ∙ ap judgment e) ∙ verdict_is layouts image s own lawful;
+      says = says_image layouts image s own lawful j (subst (λ t. judging.Says t j) e says);
+      trusted = trusted_image layouts image s own j (subst (λ t. Trusted t j) e trusted);
+    }

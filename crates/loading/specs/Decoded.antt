@@ -1,5 +1,5 @@
 -- Decoded instructions, and the bytes that they stand for.
-use Rattle.std.specs.Prelude.{◌≡◌, ℕ, ◌<◌, ◌≤◌, true, cond, List, slice_index_or}
+use Rattle.std.specs.Prelude.{◌≡◌, ℕ, ◌<◌, true, cond, List, length, Ok, Err, slice_index_or}
 use Rattle.std.specs.Option.{unwrap_or}
 use Rattle.records.specs.declared.layout.Layout.{Layout}
 use Rattle.opcodes.specs.declared.opcode.Opcode.TheVariants.{Nop}
@@ -10,8 +10,7 @@ use Rattle.operands.specs.declared.operand.Operand.TheVariants.{Nothing, Address
 use Rattle.operands.specs.Operands.{operand}
 use Rattle.loading.specs.declared.instruction.Instruction.{Instruction}
 use Rattle.loading.specs.declared.program.Program.{Program}
-use Rattle.loading.specs.declared.verdict.Verdict.{Verdict}
-use Rattle.loading.specs.declared.verdict.Verdict.TheVariants.{BadLength, Refused, Accepted}
+use Rattle.loading.specs.Verdicts.{Verdict}
 use Rattle.loading.specs.Images.{count, opcode_at, operand_bytes}
 use Rattle.loading.specs.Instructions.{address}
 
@@ -27,14 +26,12 @@ abbrev pub StandsFor : List Layout → List ℕ → ℕ → Instruction → Type
 StandsFor layouts image n i =
     (known (opcode_at image n) ≡ true → number i.opcode ≡ opcode_at image n) × (i.operand ≡ operand_for layouts (opcode_at image n) (operand_bytes image n))
 
--- the first so many instructions are decoded, and those after them are as they were
-pub record Decodes (layouts : List Layout) (image : List ℕ) (before after : List Instruction) (total : ℕ) : Type 0 where
-  pub decoded : (n : ℕ) → n < total → StandsFor layouts image n (slice_index_or after n nothing)
-  pub kept : (n : ℕ) → total ≤ n → slice_index_or after n nothing ≡ slice_index_or before n nothing
+-- as many instructions as the image has, each standing for those of the image at its number
+pub record Decodes (layouts : List Layout) (image : List ℕ) (instructions : List Instruction) : Type 0 where
+  pub all : length instructions ≡ count image
+  pub decoded : (n : ℕ) → n < count image → StandsFor layouts image n (slice_index_or instructions n nothing)
 
 -- a program after a verdict: the image's if it is accepted, else the one before
 abbrev pub Loaded : List Layout → List ℕ → Program → Program → Verdict → Type 0
-Loaded layouts image before after BadLength = after ≡ before
-Loaded layouts image before after (Refused code n) = after ≡ before
-Loaded layouts image before after (Accepted limit) =
-    (after.count ≡ count image) × (after.bound ≡ limit) × Decodes layouts image before.instructions after.instructions (count image)
+Loaded layouts image before after (Err e) = after ≡ before
+Loaded layouts image before after (Ok limit) = (after.bound ≡ limit) × Decodes layouts image after.instructions.items

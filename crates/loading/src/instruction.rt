@@ -4,48 +4,42 @@ ghost use Rattle.opcodes.specs.Families.{known};
 ghost use Rattle.opcodes.specs.Numbers.{number};
 ghost use Rattle.loading.specs.Decoded.{operand_for};
 
-use crate::first_pass::{address_of, takes_address};
-use opcodes::{Opcode, opcode_of, takes_operand};
+use crate::encoded::Encoded;
+use crate::flow::takes_address;
+use opcodes::{Opcode, takes_operand};
 use operands::{Operand, decode_operand};
 use records::Layout;
 
-#[derive(Clone, Copy)]
+// By default a NOP, which does nothing.
+#[derive(Clone, Copy, Debug, Default, PartialEq)]
 pub struct Instruction {
     pub opcode: Opcode,
     pub operand: Operand,
 }
 
-impl Instruction {
-    // Does nothing.
-    pub const NOTHING: Instruction = Instruction {
-        opcode: Opcode::Nop,
-        operand: Operand::Nothing,
-    };
-}
+impl Encoded<'_> {
+    // An unknown opcode, which no accepted image has, decodes to a NOP.
+    #[tactic(auto, using(crate::proofs::Filling::named_or))]
+    pub fn decode(&self, layouts: &[Layout; 8]) -> Instruction
+        ensures opcode { known self.now.opcode ≡ true → number result.opcode ≡ self.now.opcode }
+        ensures operand { result.operand ≡ operand_for layouts.now self.now.opcode self.now.operand.now }
+    {
+        Instruction {
+            opcode: Opcode::try_from(self.opcode).unwrap_or(Opcode::Nop),
+            operand: self.operand_in(layouts),
+        }
+    }
 
-// An unknown opcode, which no accepted image has, decodes to nothing.
-pub fn decode_instruction(opcode: u8, bytes: &[u8], layouts: &[Layout; 8]) -> Instruction
-    ensures opcode { known opcode ≡ true → number result.opcode ≡ opcode }
-    ensures operand { result.operand ≡ operand_for layouts.now opcode bytes.now }
-{
-    let operand = operand_of(opcode, bytes, layouts);
-    match opcode_of(opcode) {
-        Some(opcode) => Instruction { opcode, operand },
-        None => Instruction {
-            opcode: Opcode::Nop,
-            operand,
-        },
+    #[tactic(auto, using(crate::proofs::Filling::unaddressed))]
+    fn operand_in(&self, layouts: &[Layout; 8]) -> Operand
+        ensures { result ≡ operand_for layouts.now self.now.opcode self.now.operand.now }
+    {
+        if takes_operand(self.opcode) {
+            return decode_operand(self.operand, layouts).unwrap_or(Operand::Nothing);
+        }
+        match Opcode::try_from(self.opcode) {
+            Ok(opcode) if takes_address(opcode) => Operand::Address(self.address()),
+            _ => Operand::Nothing,
+        }
     }
-}
-
-fn operand_of(opcode: u8, bytes: &[u8], layouts: &[Layout; 8]) -> Operand
-    ensures { result ≡ operand_for layouts.now opcode bytes.now }
-{
-    if takes_operand(opcode) {
-        return decode_operand(bytes, layouts).unwrap_or(Operand::Nothing);
-    }
-    if takes_address(opcode) {
-        return Operand::Address(address_of(bytes));
-    }
-    Operand::Nothing
 }

@@ -1,58 +1,56 @@
 // A loaded program: its instructions, ready to run, in memory of a fixed size.
-ghost use Rattle.std.specs.Prelude.{◌≡◌, ℕ, ◌+◌, ◌*◌, ◌<◌, ◌≤◌, true, ◌&&◌, length, if◌then◌else◌, Some, None, nat_lt, slice_index_or};
-ghost use Rattle.loading.specs.Images.{lawful_length, count};
+ghost use Rattle.std.specs.Prelude.{◌≡◌, [], None, slice_get};
+ghost use Rattle.arrayvec.specs.ArrayVec.{array_vec_len};
 ghost use Rattle.loading.specs.Verdicts.{verdict};
 ghost use Rattle.loading.specs.Meaning.{Says};
 ghost use Rattle.loading.specs.Trust.{TrustedImage};
-ghost use Rattle.loading.specs.Decoded.{Decodes, Loaded, nothing};
+ghost use Rattle.loading.specs.Decoded.{Decodes, Loaded};
 
-use crate::image::{WIDTH, opcode_at, operand_at};
-use crate::instruction::{Instruction, decode_instruction};
-use crate::verdict::{Verdict, judge_image};
+use crate::encoded::Encoded;
+use crate::image::{Image, WIDTH};
+use crate::instruction::Instruction;
+use crate::verdict::Verdict;
+use arrayvec::ArrayVec;
 use control::MOST_INSTRUCTIONS;
 use records::Layout;
 
 #[derive(Drop)]
 pub struct Program {
-    instructions: [Instruction; MOST_INSTRUCTIONS],
-    // How many of them are the program's; none before a program is loaded.
-    count: u16,
+    // None before a program is loaded.
+    instructions: ArrayVec<Instruction, MOST_INSTRUCTIONS>,
     bound: Option<u32>,
 }
 
 impl Program {
     pub fn new() -> Program
-        ensures none { (result.count ≡ 0) × (result.bound ≡ None) }
-        ensures empty { (n : ℕ) → slice_index_or result.instructions n nothing ≡ nothing }
+        ensures empty { result.instructions.items ≡ [] }
+        ensures unbound { result.bound ≡ None }
     {
         Program {
-            instructions: no_instructions(),
-            count: 0,
+            instructions: ArrayVec::new(),
             bound: None,
         }
     }
 
     // Takes an accepted image in the place of the program before it; any other image changes nothing.
+    #[tactic(auto, unfolding(crate::specs::Verdicts::verdict))]
     pub fn load(&mut self, image: &[u8], layouts: &[Layout; 8]) -> Verdict
         ensures value { result ≡ verdict layouts.now image.now }
         ensures says { Says layouts.now image.now result }
         ensures trusted { TrustedImage layouts.now image.now result }
         ensures loaded { Loaded layouts.now image.now self.old self.new result }
     {
-        let verdict = judge_image(image, layouts);
-        if let Verdict::Accepted(bound) = verdict {
-            let count = image.len() / WIDTH;
-            fill(&mut self.instructions, image, layouts, count);
-            self.count = count as u16;
-            self.bound = bound;
-        }
-        verdict
+        let image = Image::try_from(image)?;
+        let bound = image.judge(layouts)?;
+        image.decode(layouts, &mut self.instructions);
+        self.bound = bound;
+        Ok(bound)
     }
 
     pub fn count(&self) -> u16
-        ensures { result ≡ self.now.count }
+        ensures { result ≡ array_vec_len self.now.instructions }
     {
-        self.count
+        self.instructions.len() as u16
     }
 
     // The most steps that a cycle takes, where that is known.
@@ -62,33 +60,31 @@ impl Program {
         self.bound
     }
 
-    pub fn instruction(&self, n: u16) -> Option<Instruction>
-        ensures { result ≡ (if nat_lt n self.now.count && nat_lt n 1024 then Some (slice_index_or self.now.instructions n nothing) else None) }
+    pub fn instructions(&self) -> &[Instruction]
+        ensures { result.now ≡ self.now.instructions.items }
     {
-        if n < self.count && (n as usize) < MOST_INSTRUCTIONS {
-            return Some(self.instructions[n as usize]);
+        self.instructions.as_slice()
+    }
+
+    pub fn instruction(&self, n: u16) -> Option<Instruction>
+        ensures { result ≡ slice_get self.now.instructions.items n }
+    {
+        self.instructions().get(usize::from(n)).copied()
+    }
+}
+
+impl Image<'_> {
+    // Decodes each instruction, in the place of what was there.
+    fn decode(
+        self,
+        layouts: &[Layout; 8],
+        instructions: &mut ArrayVec<Instruction, MOST_INSTRUCTIONS>,
+    )
+        ensures { Decodes layouts.now self.entry.bytes.now instructions.new.items }
+    {
+        instructions.clear();
+        for bytes in self.bytes.chunks_exact(WIDTH) {
+            instructions.push(Encoded::of(bytes).decode(layouts));
         }
-        None
     }
-}
-
-fn fill(
-    instructions: &mut [Instruction; MOST_INSTRUCTIONS],
-    image: &[u8],
-    layouts: &[Layout; 8],
-    total: usize,
-)
-    requires few { total ≤ 1024 }
-    requires all { total * 5 ≤ length image.now }
-    ensures { Decodes layouts.now image.now instructions.old instructions.new total }
-{
-    for n in 0..total {
-        instructions[n] = decode_instruction(opcode_at(image, n), operand_at(image, n), layouts);
-    }
-}
-
-fn no_instructions() -> [Instruction; MOST_INSTRUCTIONS]
-    ensures { (n : ℕ) → slice_index_or result n nothing ≡ nothing }
-{
-    [Instruction::NOTHING; MOST_INSTRUCTIONS]
 }

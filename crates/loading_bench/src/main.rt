@@ -1,7 +1,7 @@
 // How long loading takes: judges and decodes the longest images. With a number as its argument, it repeats that often and prints the time.
 #![tactic(auto)]
 
-use loading::{Program, Verdict};
+use loading::Program;
 use records::Layout;
 use std::env;
 use std::time::Instant;
@@ -10,17 +10,20 @@ const LAYOUTS: [Layout; 8] = [Layout { length: 512 }; 8];
 
 const COUNT: usize = 1024;
 
-const BYTES: usize = 5120;
+// The bytes of an instruction.
+const WIDTH: usize = 5;
+
+const BYTES: usize = COUNT * WIDTH;
 
 fn main(rt: HostRuntime) -> anyhow::Result<()> {
     run(&rt)
 }
 
 fn run(rt: &HostRuntime) -> anyhow::Result<()> {
-    let mut rounds = 0u32;
-    if let Some(word) = env::args(rt)?.nth(1) {
-        rounds = word.as_str().parse::<u32>()?;
-    }
+    let rounds = match env::args(rt)?.nth(1) {
+        Some(word) => word.as_str().parse::<u32>()?,
+        None => 0,
+    };
     measure(
         rt,
         "constants",
@@ -42,12 +45,12 @@ fn run(rt: &HostRuntime) -> anyhow::Result<()> {
 }
 
 // As many of one instruction as fit, and an END.
-fn filled(instruction: [u8; 5]) -> [u8; BYTES] {
+fn filled(instruction: [u8; WIDTH]) -> [u8; BYTES] {
     let mut image = [0u8; BYTES];
-    for i in 0..BYTES {
-        image[i] = instruction[i % 5];
+    for bytes in image.chunks_exact_mut(WIDTH) {
+        bytes.copy_from_slice(&instruction);
     }
-    image[BYTES - 5] = 0xff;
+    image[BYTES - WIDTH] = 0xff;
     image
 }
 
@@ -55,9 +58,7 @@ fn measure(rt: &HostRuntime, what: &str, image: &[u8], rounds: u32) -> anyhow::R
     let mut program = Program::new();
     let verdict = program.load(image, &LAYOUTS);
     match verdict {
-        Verdict::Accepted(Some(bound)) => println!(rt;
-            "{COUNT} {what}: accepted, at most {bound} steps"
-        )?,
+        Ok(Some(bound)) => println!(rt; "{COUNT} {what}: accepted, at most {bound} steps")?,
         _ => println!(rt; "{COUNT} {what}: no bound")?,
     }
     if rounds > 0 {

@@ -1,6 +1,6 @@
 // Step bounds of accepted programs.
-use crate::images::{CALL, END, JMP, JR, NO_LAYOUTS, NOP, POP, PUSH, RET, append, check_accepted};
-use loading::{Verdict, judge_image};
+use crate::images::{CALL, END, JMP, JR, NO_LAYOUTS, NOP, POP, PUSH, RET, append, check_verdict};
+use loading::judge_image;
 use std::alloc::{AllocError, Global};
 use std::test::Fail;
 
@@ -40,7 +40,7 @@ fn small_programs(rt: HostRuntime) -> Result<(), Fail> {
         (&[(PUSH, 0), (JR, 3), (NOP, 0), (POP, 0), (END, 0)], Some(5)),
     ];
     for (program, bound) in cases {
-        check_accepted(&rt, rt.alloc(), program, bound)?;
+        check_verdict(&rt, rt.alloc(), program, Ok(bound))?;
     }
     Ok(())
 }
@@ -64,7 +64,7 @@ fn million(heap: Global, more: u16) -> Result<Vec<u8>, AllocError> {
 fn about_a_million(rt: HostRuntime) -> Result<(), Fail> {
     for (more, bound) in [(0, Some(1_000_000)), (1, None), (2, None)] {
         let image = million(rt.alloc(), more)?;
-        assert_eq!(rt; judge_image(&image, &NO_LAYOUTS), Verdict::Accepted(bound));
+        assert_eq!(rt; judge_image(&image, &NO_LAYOUTS), Ok(bound));
     }
     Ok(())
 }
@@ -81,6 +81,6 @@ fn enormous_weights(rt: HostRuntime) -> Result<(), Fail> {
     append(&mut image, 119, NOP, 0)?;
     append(&mut image, 1, RET, 0)?;
     assert_eq!(rt; image.len(), 5120);
-    assert_eq!(rt; judge_image(&image, &NO_LAYOUTS), Verdict::Accepted(None));
+    assert_eq!(rt; judge_image(&image, &NO_LAYOUTS), Ok(None));
     Ok(())
 }

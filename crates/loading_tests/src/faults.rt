@@ -1,9 +1,10 @@
 // The first rule that a program breaks, and where.
 use crate::images::{
-    CALL, END, JMP, JR, L, NO_LAYOUTS, NOP, POP, PUSH, RET, STRANGE, UNKNOWN, append, check_refused,
+    CALL, END, JMP, JR, L, NO_LAYOUTS, NOP, POP, PUSH, RET, STRANGE, UNKNOWN, append,
+    check_verdict, refused,
 };
 use control::LoadingCode;
-use loading::{Verdict, judge_image};
+use loading::{LoadError, judge_image};
 use std::test::Fail;
 
 // The rules of each instruction by itself come first, in the order of the instructions, whatever the other rules say of those
@@ -40,7 +41,7 @@ fn first_pass(rt: HostRuntime) -> Result<(), Fail> {
         (&[(CALL, 2), (END, 0)], LoadingCode::BadAddress, 0),
     ];
     for (program, code, number) in cases {
-        check_refused(&rt, rt.alloc(), program, code, number)?;
+        check_verdict(&rt, rt.alloc(), program, refused(code, number))?;
     }
     Ok(())
 }
@@ -86,7 +87,7 @@ fn in_company(rt: HostRuntime) -> Result<(), Fail> {
         (&[(RET, 0), (POP, 0)], LoadingCode::ReturnOutside, 0),
     ];
     for (program, code, number) in cases {
-        check_refused(&rt, rt.alloc(), program, code, number)?;
+        check_verdict(&rt, rt.alloc(), program, refused(code, number))?;
     }
     Ok(())
 }
@@ -126,7 +127,7 @@ fn two_at_once(rt: HostRuntime) -> Result<(), Fail> {
         (&[(CALL, 0)], LoadingCode::SectionRunsOn, 0),
     ];
     for (program, code, number) in cases {
-        check_refused(&rt, rt.alloc(), program, code, number)?;
+        check_verdict(&rt, rt.alloc(), program, refused(code, number))?;
     }
     Ok(())
 }
@@ -175,7 +176,7 @@ fn depths_out_of_range(rt: HostRuntime) -> Result<(), Fail> {
         ),
     ];
     for (program, code, number) in cases {
-        check_refused(&rt, rt.alloc(), program, code, number)?;
+        check_verdict(&rt, rt.alloc(), program, refused(code, number))?;
     }
     Ok(())
 }
@@ -196,7 +197,7 @@ fn nine_deep(rt: HostRuntime) -> Result<(), Fail> {
         append(&mut image, 1, END, 0)?;
         assert_eq!(rt;
             judge_image(&image, &NO_LAYOUTS),
-            Verdict::Refused(code, number),
+            Err(LoadError::Breaks(code, number)),
             "to {target}"
         );
     }
@@ -235,7 +236,7 @@ fn sections(rt: HostRuntime) -> Result<(), Fail> {
         ),
     ];
     for (program, code, number) in cases {
-        check_refused(&rt, rt.alloc(), program, code, number)?;
+        check_verdict(&rt, rt.alloc(), program, refused(code, number))?;
     }
     Ok(())
 }

@@ -1,6 +1,6 @@
 // Which operand bytes fit an opcode and the layouts.
 use control::LoadingCode;
-use loading::{Verdict, judge_image};
+use loading::{LoadError, judge_image};
 use records::Layout;
 use std::process::Abort;
 
@@ -21,7 +21,7 @@ fn check_fitting(rt: &impl Abort, instruction: u64, expected: bool) {
     let [_, _, _, opcode, p1, p2, p3, p4] = u64::to_be_bytes(instruction);
     let image = [opcode, p1, p2, p3, p4, 0xff, 0, 0, 0, 0];
     let verdict = judge_image(&image, &LAYOUTS);
-    let fits = verdict != Verdict::Refused(LoadingCode::BadOperand, 0);
+    let fits = verdict != Err(LoadError::Breaks(LoadingCode::BadOperand, 0));
     assert_eq!(rt; fits, expected, "{instruction:010X}");
 }
 

@@ -1,6 +1,6 @@
 // Images of programs, and what the tests expect of them.
 use control::LoadingCode;
-use loading::{Verdict, judge_image};
+use loading::{LoadError, Verdict, judge_image};
 use records::Layout;
 use std::alloc::{AllocError, Global};
 use std::process::Abort;
@@ -33,19 +33,16 @@ pub const STRANGE: u8 = 0x60;
 
 pub const NO_LAYOUTS: [Layout; 8] = [Layout::ABSENT; 8];
 
-// So many instructions with the same address.
+// So many instructions with the same address. The opcode is a number, since images with unknown ones are tested too.
 pub fn append(
     image: &mut Vec<u8>,
     count: usize,
     opcode: u8,
     address: u16,
 ) -> Result<(), AllocError> {
+    let [low, high] = address.to_le_bytes();
     for _ in 0..count {
-        image.push(opcode)?;
-        image.push((address % 256) as u8)?;
-        image.push((address / 256) as u8)?;
-        image.push(0)?;
-        image.push(0)?;
+        image.extend_from_slice(&[opcode, low, high, 0, 0])?;
     }
     Ok(())
 }
@@ -53,35 +50,23 @@ pub fn append(
 // Instructions by their opcode and first operand byte.
 pub fn image_of(heap: Global, program: &[(u8, u8)]) -> Result<Vec<u8>, AllocError> {
     let mut image = Vec::new(heap);
-    for i in 0..program.len() {
-        let (opcode, first) = program[i];
-        append(&mut image, 1, opcode, first as u16)?;
+    for &(opcode, first) in program {
+        append(&mut image, 1, opcode, u16::from(first))?;
     }
     Ok(image)
 }
 
-pub fn check_refused(
-    rt: &impl Abort,
-    heap: Global,
-    program: &[(u8, u8)],
-    code: LoadingCode,
-    number: u16,
-) -> Result<(), Fail> {
-    let image = image_of(heap, program)?;
-    assert_eq!(rt;
-        judge_image(&image, &NO_LAYOUTS),
-        Verdict::Refused(code, number)
-    );
-    Ok(())
+pub fn refused(code: LoadingCode, number: u16) -> Verdict {
+    Err(LoadError::Breaks(code, number))
 }
 
-pub fn check_accepted(
+pub fn check_verdict(
     rt: &impl Abort,
     heap: Global,
     program: &[(u8, u8)],
-    bound: Option<u32>,
+    expected: Verdict,
 ) -> Result<(), Fail> {
     let image = image_of(heap, program)?;
-    assert_eq!(rt; judge_image(&image, &NO_LAYOUTS), Verdict::Accepted(bound));
+    assert_eq!(rt; judge_image(&image, &NO_LAYOUTS), expected);
     Ok(())
 }

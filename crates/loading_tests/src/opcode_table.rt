@@ -1,6 +1,6 @@
 // Every opcode with every first operand byte.
 use control::LoadingCode;
-use loading::{Verdict, judge_image};
+use loading::{LoadError, Verdict, judge_image};
 use opcodes::{admits, is_known, takes_operand};
 use records::Layout;
 
@@ -16,6 +16,7 @@ enum Family {
     Unknown,
 }
 
+// By number, as the rules list them: all 256 are tested, and opcodes that the table does not know are among them.
 fn family_of(opcode: u8) -> Family {
     match opcode {
         0x01 | 0x02 | 0x05..=0x0c | 0x19 | 0x1a | 0x1d..=0x20 | 0x25..=0x30 | 0x46 | 0x47 => {
@@ -89,19 +90,19 @@ fn fits(family: Family, first: u8) -> bool {
 // The verdict on an instruction with this opcode and first operand byte, and the end after it.
 fn expected(opcode: u8, first: u8) -> Verdict {
     match family_of(opcode) {
-        Family::Unknown => Verdict::Refused(LoadingCode::UnknownOpcode, 0),
+        Family::Unknown => Err(LoadError::Breaks(LoadingCode::UnknownOpcode, 0)),
         Family::Address => expected_at_address(opcode, first),
         Family::Nothing => match opcode {
-            0x0d..=0x12 => Verdict::Refused(LoadingCode::PopAtZero, 0),
-            0x3b => Verdict::Refused(LoadingCode::ReturnOutside, 0),
-            0xff => Verdict::Accepted(Some(1)),
-            _ => Verdict::Accepted(Some(2)),
+            0x0d..=0x12 => Err(LoadError::Breaks(LoadingCode::PopAtZero, 0)),
+            0x3b => Err(LoadError::Breaks(LoadingCode::ReturnOutside, 0)),
+            0xff => Ok(Some(1)),
+            _ => Ok(Some(2)),
         },
         known => {
             if fits(known, first) {
-                Verdict::Accepted(Some(2))
+                Ok(Some(2))
             } else {
-                Verdict::Refused(LoadingCode::BadOperand, 0)
+                Err(LoadError::Breaks(LoadingCode::BadOperand, 0))
             }
         }
     }
@@ -110,19 +111,15 @@ fn expected(opcode: u8, first: u8) -> Verdict {
 // Address 0 is the instruction's own, 1 the end's, and there is no other.
 fn expected_at_address(opcode: u8, address: u8) -> Verdict {
     if address >= 2 {
-        return Verdict::Refused(LoadingCode::BadAddress, 0);
+        return Err(LoadError::Breaks(LoadingCode::BadAddress, 0));
     }
     if opcode == 0x3a {
         if address == 0 {
-            return Verdict::Refused(LoadingCode::CallsBack, 0);
+            return Err(LoadError::Breaks(LoadingCode::CallsBack, 0));
         }
-        return Verdict::Refused(LoadingCode::SectionRunsOn, 0);
+        return Err(LoadError::Breaks(LoadingCode::SectionRunsOn, 0));
     }
-    if address == 0 {
-        Verdict::Accepted(None)
-    } else {
-        Verdict::Accepted(Some(2))
-    }
+    if address == 0 { Ok(None) } else { Ok(Some(2)) }
 }
 
 #[test]
@@ -153,13 +150,13 @@ fn fitting_byte(opcode: u8) -> u8 {
 
 fn expected_as_last(opcode: u8) -> Verdict {
     match opcode {
-        0x0d..=0x12 => Verdict::Refused(LoadingCode::PopAtZero, 1),
-        0x39 => Verdict::Accepted(None),
-        0x3b => Verdict::Refused(LoadingCode::ReturnOutside, 1),
-        0xff => Verdict::Accepted(Some(1)),
+        0x0d..=0x12 => Err(LoadError::Breaks(LoadingCode::PopAtZero, 1)),
+        0x39 => Ok(None),
+        0x3b => Err(LoadError::Breaks(LoadingCode::ReturnOutside, 1)),
+        0xff => Ok(Some(1)),
         _ => match family_of(opcode) {
-            Family::Unknown => Verdict::Refused(LoadingCode::UnknownOpcode, 1),
-            _ => Verdict::Refused(LoadingCode::SectionRunsOn, 1),
+            Family::Unknown => Err(LoadError::Breaks(LoadingCode::UnknownOpcode, 1)),
+            _ => Err(LoadError::Breaks(LoadingCode::SectionRunsOn, 1)),
         },
     }
 }

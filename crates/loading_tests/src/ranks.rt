@@ -1,5 +1,5 @@
 // Ranks of sections: a call in one of rank 8 is too deep.
-use crate::images::{CALL, END, POP, PUSH, RET, check_accepted, check_refused};
+use crate::images::{CALL, END, POP, PUSH, RET, check_verdict, refused};
 use control::LoadingCode;
 use std::test::Fail;
 
@@ -30,29 +30,29 @@ const CHAIN: [(u8, u8); 19] = [
 #[test]
 fn rank_eight(rt: HostRuntime) -> Result<(), Fail> {
     let heap = rt.alloc();
-    check_refused(&rt, heap, &CHAIN, LoadingCode::CallTooDeep, 16)?;
+    check_verdict(&rt, heap, &CHAIN, refused(LoadingCode::CallTooDeep, 16))?;
     let mut without = CHAIN;
     without[16] = (RET, 0);
-    check_accepted(&rt, heap, &without, Some(17))?;
+    check_verdict(&rt, heap, &without, Ok(Some(17)))?;
     // 13 and 05: the call goes on to the section that it calls
     let mut last = CHAIN;
     last[16] = (CALL, 17);
-    check_refused(&rt, heap, &last, LoadingCode::SectionRunsOn, 16)?;
+    check_verdict(&rt, heap, &last, refused(LoadingCode::SectionRunsOn, 16))?;
     // 14 and 05
     let mut back = CHAIN;
     back[16] = (CALL, 16);
-    check_refused(&rt, heap, &back, LoadingCode::CallsBack, 16)?;
+    check_verdict(&rt, heap, &back, refused(LoadingCode::CallsBack, 16))?;
     // 11, 13 and 05: the call is made with a bit held
     let mut held = CHAIN;
     held[16] = (PUSH, 0);
     held[17] = (CALL, 18);
-    check_refused(&rt, heap, &held, LoadingCode::DepthDiffers, 17)?;
+    check_verdict(&rt, heap, &held, refused(LoadingCode::DepthDiffers, 17))?;
     // 05 before a pop at depth 0 that is also the last instruction, and that pop without the 05
     let mut company = CHAIN;
     company[18] = (POP, 0);
-    check_refused(&rt, heap, &company, LoadingCode::CallTooDeep, 16)?;
+    check_verdict(&rt, heap, &company, refused(LoadingCode::CallTooDeep, 16))?;
     company[16] = (RET, 0);
-    check_refused(&rt, heap, &company, LoadingCode::PopAtZero, 18)
+    check_verdict(&rt, heap, &company, refused(LoadingCode::PopAtZero, 18))
 }
 
 // Section 0 calls 3 and 17. From 3 on a chain of ranks 1 to 7, whose last calls 19; 17, of rank 1, calls 19 too, and 19 calls
@@ -86,22 +86,22 @@ const SHARED: [(u8, u8); 22] = [
 #[test]
 fn called_from_several_ranks(rt: HostRuntime) -> Result<(), Fail> {
     let heap = rt.alloc();
-    check_refused(&rt, heap, &SHARED, LoadingCode::CallTooDeep, 19)?;
+    check_verdict(&rt, heap, &SHARED, refused(LoadingCode::CallTooDeep, 19))?;
     let mut without = SHARED;
     without[19] = (RET, 0);
     without[20] = (CALL, 21);
     // 13 and 05: 20 is the last of its section
-    check_refused(&rt, heap, &without, LoadingCode::SectionRunsOn, 20)?;
+    check_verdict(&rt, heap, &without, refused(LoadingCode::SectionRunsOn, 20))?;
     without[20] = (RET, 0);
-    check_accepted(&rt, heap, &without, Some(21))?;
+    check_verdict(&rt, heap, &without, Ok(Some(21)))?;
     // 17 now has rank 8, as 15 calls it, though section 0 does so as well
     let mut first = SHARED;
     first[15] = (CALL, 17);
-    check_refused(&rt, heap, &first, LoadingCode::CallTooDeep, 17)?;
+    check_verdict(&rt, heap, &first, refused(LoadingCode::CallTooDeep, 17))?;
     // without the call of 15 all ranks are below 8: 19 has rank 2
     let mut low = SHARED;
     low[15] = (RET, 0);
-    check_accepted(&rt, heap, &low, Some(21))
+    check_verdict(&rt, heap, &low, Ok(Some(21)))
 }
 
 // A section of rank k at 2k - 1, for k from 1 to 9; only the last calls 1.
@@ -131,14 +131,14 @@ const BEHIND: [(u8, u8); 19] = [
 #[test]
 fn called_from_behind(rt: HostRuntime) -> Result<(), Fail> {
     let heap = rt.alloc();
-    check_refused(&rt, heap, &BEHIND, LoadingCode::CallTooDeep, 15)?;
+    check_verdict(&rt, heap, &BEHIND, refused(LoadingCode::CallTooDeep, 15))?;
     // 14 and 05
     let mut sooner = BEHIND;
     sooner[15] = (CALL, 1);
-    check_refused(&rt, heap, &sooner, LoadingCode::CallsBack, 15)?;
+    check_verdict(&rt, heap, &sooner, refused(LoadingCode::CallsBack, 15))?;
     // without the calls at 11 and 13 the rank of 17 is 7, so that only 14 is left
     let mut low = BEHIND;
     low[11] = (RET, 0);
     low[13] = (RET, 0);
-    check_refused(&rt, heap, &low, LoadingCode::CallsBack, 17)
+    check_verdict(&rt, heap, &low, refused(LoadingCode::CallsBack, 17))
 }

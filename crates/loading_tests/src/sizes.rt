@@ -1,30 +1,27 @@
 // Images of every length, and addresses up to the last.
 use crate::images::{CALL, END, JMP, NO_LAYOUTS, NOP, RET, append};
 use control::LoadingCode;
-use loading::{Verdict, judge_image};
+use loading::{LoadError, judge_image};
 use std::test::Fail;
 
 // Bytes FF are instructions that end the program.
 #[test]
 fn whole_instructions_only(rt: HostRuntime) -> Result<(), Fail> {
     for (length, expected) in [
-        (0, Verdict::BadLength),
-        (1, Verdict::BadLength),
-        (4, Verdict::BadLength),
-        (5, Verdict::Accepted(Some(1))),
-        (6, Verdict::BadLength),
-        (9, Verdict::BadLength),
-        (10, Verdict::Accepted(Some(1))),
-        (5119, Verdict::BadLength),
-        (5120, Verdict::Accepted(Some(1))),
-        (5121, Verdict::BadLength),
-        (5125, Verdict::BadLength),
-        (10_240, Verdict::BadLength),
+        (0, Err(LoadError::BadLength)),
+        (1, Err(LoadError::BadLength)),
+        (4, Err(LoadError::BadLength)),
+        (5, Ok(Some(1))),
+        (6, Err(LoadError::BadLength)),
+        (9, Err(LoadError::BadLength)),
+        (10, Ok(Some(1))),
+        (5119, Err(LoadError::BadLength)),
+        (5120, Ok(Some(1))),
+        (5121, Err(LoadError::BadLength)),
+        (5125, Err(LoadError::BadLength)),
+        (10_240, Err(LoadError::BadLength)),
     ] {
-        let mut image = Vec::new(rt.alloc());
-        for _ in 0..length {
-            image.push(0xff)?;
-        }
+        let image = vec![in rt.alloc(); 0xff; length]?;
         assert_eq!(rt;
             judge_image(&image, &NO_LAYOUTS),
             expected,
@@ -38,33 +35,38 @@ fn whole_instructions_only(rt: HostRuntime) -> Result<(), Fail> {
 #[test]
 fn longest_programs(rt: HostRuntime) -> Result<(), Fail> {
     for (first, address, last, expected) in [
-        (NOP, 0, END, Verdict::Accepted(Some(1024))),
+        (NOP, 0, END, Ok(Some(1024))),
         (
             NOP,
             0,
             NOP,
-            Verdict::Refused(LoadingCode::SectionRunsOn, 1023),
+            Err(LoadError::Breaks(LoadingCode::SectionRunsOn, 1023)),
         ),
-        (JMP, 1023, END, Verdict::Accepted(Some(2))),
-        (JMP, 256, END, Verdict::Accepted(Some(769))),
-        (JMP, 1024, END, Verdict::Refused(LoadingCode::BadAddress, 0)),
+        (JMP, 1023, END, Ok(Some(2))),
+        (JMP, 256, END, Ok(Some(769))),
+        (
+            JMP,
+            1024,
+            END,
+            Err(LoadError::Breaks(LoadingCode::BadAddress, 0)),
+        ),
         (
             JMP,
             65_535,
             END,
-            Verdict::Refused(LoadingCode::BadAddress, 0),
+            Err(LoadError::Breaks(LoadingCode::BadAddress, 0)),
         ),
         (
             CALL,
             1023,
             RET,
-            Verdict::Refused(LoadingCode::SectionRunsOn, 1022),
+            Err(LoadError::Breaks(LoadingCode::SectionRunsOn, 1022)),
         ),
         (
             CALL,
             1024,
             RET,
-            Verdict::Refused(LoadingCode::BadAddress, 0),
+            Err(LoadError::Breaks(LoadingCode::BadAddress, 0)),
         ),
     ] {
         let mut image = Vec::new(rt.alloc());

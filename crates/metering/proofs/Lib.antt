@@ -1,3 +1,3 @@
-pub mod Copying
 pub mod Cutting
+pub mod Summing
 pub mod Turning

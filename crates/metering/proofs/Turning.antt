@@ -1,18 +1,15 @@
 -- A table that is turned: its columns, read out of its rows.
-use Rattle.std.proofs.Common.{◌≡◌, ℕ, zero, suc, ◌+◌, ◌*◌, ◌/◌, ◌<◌, ◌≤◌, List, [], ◌∷◌, ◌++◌, map, length, get_or, sym, refl, ap, ◌∙◌, add-zero, suc-mul, zero-add, add-one, arith}
+use Rattle.std.proofs.Common.{◌≡◌, ℕ, zero, suc, ◌+◌, ◌*◌, ◌/◌, ◌%◌, ◌<◌, ◌≤◌, List, [], ◌∷◌, ◌++◌, map, length, get_or, sym, refl, ap, ◌∙◌, add-zero, suc-mul, zero-add, add-one, length-append, arith}
 use Rattle.std.specs.List.{range_with_len, flat_map}
-use Rattle.std.proofs.lemmas.Nat.{div-add-mod', div-mul-add, mul-le}
-use Rattle.std.proofs.lemmas.List.FromFn.{length-map-range_with_len, get_or-map-range_with_len, map-range_with_len_more}
-use Rattle.std.proofs.lemmas.List.{length-map, get_or-map, ext_get_or, append_assoc, append-nil}
+use Rattle.std.proofs.Math.Nat.{div-eq_of_lt}
+use Rattle.std.proofs.lemmas.Nat.{div-add-mod', div-mul-add}
+use Rattle.std.proofs.lemmas.List.FromFn.{length-map-range_with_len, get_or-map-range_with_len}
+use Rattle.std.proofs.lemmas.List.{length-map, get_or-map, ext_get_or, append_assoc, append-nil, get_or-append-add}
+use Rattle.std.proofs.Math.ListN.{get_or-append}
 use Rattle.pages.specs.declared.placement.Placement.{Placement}
 use Rattle.pages.specs.Tables.{Shaped, row_after_row, column, column_after_column}
-use Rattle.pages.proofs.Writing.{joined_length, part_at}
+use Rattle.pages.specs.Laws.{joined_length, part_at}
 use Rattle.metering.specs.Transposes.{column_bytes, Transposes}
-
--- row k of as many as fit is inside
-pub row_inside : (n w k o : ℕ) → o < w → k < n / w → k * w + o < n
-row_inside n w k o ho hk =
-    omega (arith, div-add-mod' n w, mul-le (suc k) w (n / w) w hk (omega arith), suc-mul k w)
 
 joined_same : (f g : ℕ → List ℕ) (a n : ℕ) → ((i : ℕ) → a ≤ i → i < a + n → f i ≡ g i) → flat_map f (range_with_len a n) ≡ flat_map g (range_with_len a n)
 joined_same f g a zero h = refl
@@ -48,13 +45,28 @@ module _ (rows : List ℕ) (w : ℕ) (p : Placement) (table : List (List ℕ)) (
 pub turned : (rows : List ℕ) (w : ℕ) (columns : List ℕ) → columns ≡ flat_map (column_bytes rows w) (range_with_len 0 w) → Transposes rows w columns
 turned rows w columns e p table ew s er = e ∙ every_column rows w p table ew s er
 
--- one row more of a column, and one column more
-pub column_more : (f : ℕ → ℕ) (before so_far after : List ℕ) (k : ℕ) → so_far ≡ before ++ map f (range_with_len 0 k) → after ≡ so_far ++ f k ∷ []
-    → after ≡ before ++ map f (range_with_len 0 (k + 1))
-column_more f before so_far after k es ea =
-    let more = map-range_with_len_more f 0 k k (zero-add k) in
-    let assoc = append_assoc before (map f (range_with_len 0 k)) (f k ∷ []) in
-    cc
+shifted : (f g : ℕ → ℕ) (a n : ℕ) → ((k : ℕ) → f (k + 1) ≡ g k) → map f (range_with_len (a + 1) n) ≡ map g (range_with_len a n)
+shifted f g a zero same = refl
+shifted f g a (suc n) same = ap (λ x. x ∷ map f (range_with_len (a + 1 + 1) n)) (same a) ∙ ap (λ xs. g a ∷ xs) (shifted f g (a + 1) n same)
+
+-- the byte of the first row, and the column of the rows after it
+pub column_first : (rows row rest : List ℕ) (w o : ℕ) → o < w → rows ≡ row ++ rest → length row ≡ w → column_bytes rows w o ≡ get_or row o 0 ∷ column_bytes rest w o
+column_first rows row rest w o ho laid size_of_row =
+    let size : length rows ≡ suc (length rest / w) * w + length rest % w =
+    omega (arith, ap length laid, length-append row rest, div-add-mod' (length rest) w, suc-mul (length rest / w) w) in
+    let count : length rows / w ≡ suc (length rest / w) = ap (λ n. n / w) size ∙ div-mul-add (suc (length rest / w)) w (length rest % w) (omega arith) in
+    let first : get_or rows (0 * w + o) 0 ≡ get_or row o 0 =
+    ap (λ xs. get_or xs (0 * w + o) 0) laid ∙ (ap (λ i. get_or (row ++ rest) i 0) (omega arith) ∙ get_or-append row rest 0 o (omega arith)) in
+    let later : (k : ℕ) → get_or rows ((k + 1) * w + o) 0 ≡ get_or rest (k * w + o) 0 =
+    λ k. ap (λ xs. get_or xs ((k + 1) * w + o) 0) laid
+    ∙ (ap (λ i. get_or (row ++ rest) i 0) (omega (arith, suc-mul k w)) ∙ get_or-append-add row rest (k * w + o) 0) in
+    ap (λ n. map (λ k. get_or rows (k * w + o) 0) (range_with_len 0 n)) count
+    ∙ (ap (λ x. x ∷ map (λ k. get_or rows (k * w + o) 0) (range_with_len (0 + 1) (length rest / w))) first
+    ∙ ap (λ xs. get_or row o 0 ∷ xs) (shifted (λ k. get_or rows (k * w + o) 0) (λ k. get_or rest (k * w + o) 0) 0 (length rest / w) later))
+
+-- fewer bytes than a row have no column
+pub column_none : (rows : List ℕ) (w o : ℕ) → length rows < w → column_bytes rows w o ≡ []
+column_none rows w o few = ap (λ n. map (λ k. get_or rows (k * w + o) 0) (range_with_len 0 n)) (div-eq_of_lt few)
 
 joined_from : (f : ℕ → List ℕ) (a n : ℕ) → flat_map f (range_with_len a (suc n)) ≡ flat_map f (range_with_len a n) ++ f (a + n)
 joined_from f a zero = append-nil (f a) ∙ ap f (sym (add-zero a))

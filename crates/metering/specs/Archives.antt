@@ -1,5 +1,5 @@
 -- An archive as text: in each line that is not passed over, the 100 bytes of a record; 2 to 65,535 records.
-use Rattle.std.specs.Prelude.{ℕ, ◌+◌, ◌-◌, cond, List, [], ◌∷◌, Ok, Err, Result, ◌==◌, nat_le, nat_lt}
+use Rattle.std.specs.Prelude.{◌≡◌, ℕ, ◌+◌, ◌-◌, ◌*◌, ◌/◌, ◌≤◌, cond, List, [], ◌∷◌, length, Ok, Err, Result, ◌==◌, nat_le, nat_lt}
 use Rattle.metering.specs.declared.fault.ArchiveFault.{ArchiveFault}
 use Rattle.metering.specs.declared.fault.ArchiveFault.TheVariants.{WrongLength, WrongCount}
 use Rattle.metering.specs.Texts.{lines, words, passed_over, byte_of, then, with_byte}
@@ -18,6 +18,18 @@ pub record Gathered : Type 0 where
 
 abbrev pub gathered : ℕ → List ℕ → Gathered
 gathered n xs = record { records = n; bytes = xs }
+
+-- so many records as the bytes make
+abbrev pub records_in : List ℕ → Gathered
+records_in xs = gathered (length xs / 100) xs
+
+-- whole records, and no more than an archive may have
+abbrev pub IsWhole : List ℕ → Type 0
+IsWhole xs = (length xs / 100 * 100 ≡ length xs) × (length xs / 100 ≤ 65535)
+
+-- no fewer than an archive must have
+abbrev pub IsEnough : List ℕ → Type 0
+IsEnough xs = 2 ≤ length xs / 100
 
 -- a record too many is told before its line is looked at
 abbrev pub with_record_line : ℕ → Gathered → List ℕ → Result Gathered ArchiveFault

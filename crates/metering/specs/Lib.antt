@@ -1,5 +1,4 @@
 pub mod Archives
-pub mod Parts
 pub mod Texts
 pub mod Totals
 pub mod Transposes

@@ -1,105 +1,100 @@
 // An archive as text: one record a line, and comments.
-ghost use Rattle.std.specs.Prelude.{◌≡◌, ◌+◌, ◌*◌, ◌≤◌, length, IfOk, vec_len, OnOk};
-ghost use Rattle.metering.specs.Archives.{with_record, gathered, with_record_line, with_record_lines, archive_of};
-ghost use Rattle.metering.specs.Texts.{lines, words, AsDefined};
+ghost use Rattle.std.specs.Prelude.{◌≡◌, ◌+◌, ◌*◌, ◌≤◌, length, OnOk, vec_len};
+ghost use Rattle.metering.specs.Archives.{records_in, with_record, with_record_line, archive_of, IsWhole};
+ghost use Rattle.metering.specs.Texts.{words, AsDefined};
 
 use crate::fault::ArchiveFault;
-use crate::parts::{is_passed_over, next_line, next_word};
-use crate::reading::push_byte;
+use crate::hex::push_byte;
+use crate::reading::is_passed_over;
 use std::alloc::Global;
+use std::marker::Model;
 
 // The records one after another, as a row page takes them.
 #[derive(Drop)]
 pub struct Archive {
     bytes: Vec<u8>,
-    records: u32,
-    ghost whole: { vec_len bytes ≡ 100 * records },
-    ghost enough: { 2 ≤ records },
-    ghost few: { records ≤ 65535 },
+}
+
+impl Model for Archive {
+    ghost use Rattle.metering.specs.Archives.{Gathered, records_in, IsWhole, IsEnough};
+
+    ghost Value = { Gathered };
+
+    ghost view = { λ a. records_in a.bytes.items };
+
+    ghost invariant = { λ a. IsWhole a.bytes.items × IsEnough a.bytes.items };
 }
 
 impl Archive {
     pub const RECORD: u16 = 100;
 
+    #[tactic(auto, using(crate::proofs::Cutting::no_line))]
     pub fn parse(heap: Global, text: &str) -> Result<Archive, ArchiveFault>
-        ensures { AsDefined (archive_of text.now) (λ a. gathered a.records a.bytes.items) result }
+        ensures { AsDefined (archive_of text.now) (λ a. a) result }
     {
         let mut bytes = Vec::new(heap);
-        let records = push_records(&mut bytes, text.as_bytes())?;
-        if records < 2 {
-            return Err(ArchiveFault::WrongCount(records as usize));
+        for (index, line) in text.split_inclusive('\n').enumerate() {
+            push_record_line(&mut bytes, line, index + 1)?;
         }
-        Ok(Archive { bytes, records })
+        let records = count(&bytes);
+        if records < 2 {
+            return Err(ArchiveFault::WrongCount(records));
+        }
+        Ok(Archive { bytes })
     }
 
     pub fn bytes(&self) -> &[u8]
-        ensures { result.now ≡ self.now.bytes.items }
+        ensures { result.now ≡ self.now.bytes }
     {
         self.bytes.as_slice()
     }
 
     pub fn records(&self) -> u32
-        ensures { (result * 100 ≡ length self.now.bytes.items) × (2 ≤ result) × (result ≤ 65535) }
+        ensures count { result ≡ self.now.records }
+        ensures whole { result * 100 ≡ length self.now.bytes }
+        ensures range { (2 ≤ result) × (result ≤ 65535) }
     {
-        self.records
+        count(&self.bytes) as u32
     }
 }
 
-// Adds the records of all lines, and answers how many there are.
-fn push_records(bytes: &mut Vec<u8>, text: &[u8]) -> Result<u32, ArchiveFault>
-    requires { vec_len bytes.old ≡ 0 }
-    ensures answer { AsDefined (with_record_lines 1 (gathered 0 bytes.old.items) (lines text.now)) (λ n. gathered n bytes.new.items) result }
-    ensures whole { IfOk result (λ n. (vec_len bytes.new ≡ 100 * n) × (n ≤ 65535)) }
+// How many records the bytes are.
+fn count(bytes: &[u8]) -> usize
+    ensures { result ≡ (records_in bytes.now).records }
 {
-    let mut rest = text;
-    let mut number = 0;
-    let mut records = 0;
-    while let Some((line, after)) = next_line(rest) {
-        number += 1;
-        records = push_record_line(bytes, records, line, number)?;
-        rest = after;
-    }
-    Ok(records)
+    bytes.len() / Archive::RECORD as usize
 }
 
-// Adds the record of one line, unless that is passed over, and answers how many there are then.
-fn push_record_line(
-    bytes: &mut Vec<u8>,
-    records: u32,
-    line: &[u8],
-    number: usize,
-) -> Result<u32, ArchiveFault>
-    requires { (vec_len bytes.old ≡ 100 * records) × (records ≤ 65535) }
-    ensures answer { AsDefined (with_record_line number (gathered records bytes.old.items) line.now) (λ n. gathered n bytes.new.items) result }
-    ensures whole { IfOk result (λ n. (vec_len bytes.new ≡ 100 * n) × (n ≤ 65535)) }
+// Adds the record of one line, unless that is passed over.
+fn push_record_line(bytes: &mut Vec<u8>, line: &str, number: usize) -> Result<(), ArchiveFault>
+    requires { IsWhole bytes.old.items }
+    ensures answer { AsDefined (with_record_line number (records_in bytes.old.items) line.now) (λ _. records_in bytes.new.items) result }
+    ensures whole { OnOk result (IsWhole bytes.new.items) }
 {
     if is_passed_over(line) {
-        return Ok(records);
+        return Ok(());
     }
-    if records >= 65_535 {
+    if count(bytes) >= 65_535 {
         return Err(ArchiveFault::WrongCount(65_536));
     }
-    push_record(bytes, line, number)?;
-    Ok(records + 1)
+    push_record(bytes, line, number)
 }
 
 // Adds the bytes of one line, which must be exactly one record.
-fn push_record(bytes: &mut Vec<u8>, line: &[u8], number: usize) -> Result<(), ArchiveFault>
+#[tactic(auto, using(crate::proofs::Cutting::no_word))]
+fn push_record(bytes: &mut Vec<u8>, line: &str, number: usize) -> Result<(), ArchiveFault>
     ensures answer { AsDefined (with_record number 100 bytes.old.items (words line.now)) (λ _. bytes.new.items) result }
     ensures whole { OnOk result (vec_len bytes.new ≡ vec_len bytes.old + 100) }
 {
-    let mut rest = line;
-    let mut left = Archive::RECORD;
-    while left > 0 {
-        let Some((word, after)) = next_word(rest) else {
+    let mut words = line.split_ascii_whitespace();
+    for _ in 0..Archive::RECORD {
+        let Some(word) = words.next() else {
             return Err(ArchiveFault::WrongLength(number));
         };
         push_byte(bytes, word, number)?;
-        rest = after;
-        left -= 1;
     }
-    if next_word(rest).is_some() {
-        return Err(ArchiveFault::WrongLength(number));
+    match words.next() {
+        Some(_) => Err(ArchiveFault::WrongLength(number)),
+        None => Ok(()),
     }
-    Ok(())
 }

@@ -13,10 +13,7 @@ pub fn copy_record<S: Source>(
     ensures { IfOk result (λ v. v.items ≡ (S.Source.meaning source.now).bytes base which) }
 {
     let mut bytes = Vec::new(heap);
-    for offset in 0..source.layout(base).length as usize {
-        let Some(byte) = source.byte(base, which, offset) else {
-            unreachable()
-        };
+    while let Some(byte) = source.byte(base, which, bytes.len()) {
         bytes.push(byte)?;
     }
     Ok(bytes)

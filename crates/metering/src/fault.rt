@@ -3,36 +3,22 @@ ghost use Rattle.std.specs.Prelude.{◌≡◌};
 ghost use Rattle.metering.specs.declared.fault.ArchiveFault.TheVariants.{Memory};
 
 use std::alloc::{AllocError, AllocFailed};
-use std::fmt;
+use thiserror::Error;
 
 // Lines are counted from 1.
-#[derive(Debug, PartialEq, Drop)]
+#[derive(Clone, Copy, Debug, PartialEq, Eq, Error)]
 pub enum ArchiveFault {
+    #[error("there is not enough memory for the archive")]
     Memory,
+    #[error("line {0}: a byte is two hexadecimal digits")]
     NotAByte(usize),
+    #[error("line {0}: a record has 100 bytes")]
     WrongLength(usize),
+    #[error("an archive has 2 to 65535 records, this one has {0}")]
     WrongCount(usize),
 }
 
-impl fmt::Display for ArchiveFault {
-    fn fmt<W: fmt::Write>(&self, f: &mut fmt::Formatter<W>) -> fmt::Result {
-        match self {
-            ArchiveFault::Memory => write!(f, "there is not enough memory for the archive"),
-            ArchiveFault::NotAByte(line) => write!(
-                f,
-                "line {line}: a byte is two hexadecimal digits"
-            ),
-            ArchiveFault::WrongLength(line) => write!(f, "line {line}: a record has 100 bytes"),
-            ArchiveFault::WrongCount(records) => {
-                write!(
-                    f,
-                    "an archive has 2 to 65535 records, this one has {records}"
-                )
-            }
-        }
-    }
-}
-
+// By hand, since the parsers' contracts say which fault a `?` makes.
 impl From<AllocError> for ArchiveFault {
     ghost from_gives = { λ _ r. r ≡ Memory };
 

@@ -1,27 +1,32 @@
 // Bytes as two hexadecimal digits.
-ghost use Rattle.std.specs.Prelude.{◌≡◌, ◌<◌, IfSome};
-ghost use Rattle.metering.specs.Texts.{hex_digit, byte_of};
+ghost use Rattle.std.specs.Prelude.{◌≡◌, ◌+◌, ◌<◌, IfSome, OnOk, vec_len};
+ghost use Rattle.metering.specs.Texts.{hex_digit, byte_of, with_byte, AsDefined};
 
-pub fn hex_byte(word: &[u8]) -> Option<u8>
+use crate::fault::ArchiveFault;
+
+// Adds the byte of one word, which stands in the line of that number.
+pub(crate) fn push_byte(bytes: &mut Vec<u8>, word: &str, number: usize) -> Result<(), ArchiveFault>
+    ensures answer { AsDefined (with_byte number bytes.old.items (byte_of word.now)) (λ _. bytes.new.items) result }
+    ensures one { OnOk result (vec_len bytes.new ≡ vec_len bytes.old + 1) }
+{
+    let byte = hex_byte(word).ok_or(ArchiveFault::NotAByte(number))?;
+    bytes.push(byte)?;
+    Ok(())
+}
+
+fn hex_byte(word: &str) -> Option<u8>
     ensures { result ≡ byte_of word.now }
 {
-    if word.len() != 2 {
+    let &[high, low] = word.as_bytes() else {
         return None;
-    }
-    match (hex_digit(word[0]), hex_digit(word[1])) {
-        (Some(high), Some(low)) => Some(high * 16 + low),
-        _ => None,
-    }
+    };
+    Some(hex_digit(high)? * 16 + hex_digit(low)?)
 }
 
 fn hex_digit(digit: u8) -> Option<u8>
     ensures value { result ≡ hex_digit digit }
     ensures small { IfSome result (λ d. d < 16) }
 {
-    match digit {
-        b'0'..=b'9' => Some(digit - b'0'),
-        b'a'..=b'f' => Some(digit - b'a' + 10),
-        b'A'..=b'F' => Some(digit - b'A' + 10),
-        _ => None,
-    }
+    let value = (digit as char).to_digit(16)?;
+    Some(value as u8)
 }

@@ -5,7 +5,6 @@ mod archive;
 mod copy;
 mod fault;
 mod hex;
-mod parts;
 mod reading;
 mod record;
 mod transpose;

@@ -4,6 +4,7 @@ ghost use Rattle.metering.specs.Transposes.{Transposes, all_columns, column_byte
 
 use std::alloc::{AllocError, Global};
 
+#[tactic(auto, using(crate::proofs::Turning::columns_more))]
 pub fn columns(heap: Global, rows: &[u8], length: u16) -> Result<Vec<u8>, AllocError>
     ensures value { IfOk result (λ v. v.items ≡ all_columns rows.now length) }
     ensures transposed { IfOk result (λ v. Transposes rows.now length v.items) }
@@ -26,8 +27,8 @@ fn push_column(
     requires { offset < width }
     ensures { OnOk result (out.new.items ≡ out.old.items ++ column_bytes rows.now width offset) }
 {
-    for row in 0..rows.len() / width {
-        out.push(rows[row * width + offset])?;
+    for row in rows.chunks_exact(width) {
+        out.push(row[offset])?;
     }
     Ok(())
 }

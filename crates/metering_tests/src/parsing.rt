@@ -15,10 +15,7 @@ fn line(heap: Global, byte: &str, count: usize, end: &str) -> Result<String, All
 }
 
 fn fault(heap: Global, text: &str) -> Option<ArchiveFault> {
-    match Archive::parse(heap, text) {
-        Ok(_) => None,
-        Err(e) => Some(e),
-    }
+    Archive::parse(heap, text).err()
 }
 
 #[test]
@@ -91,19 +88,12 @@ fn bytes_stand_in_any_lines(rt: HostRuntime) -> Result<(), Fail> {
     let bytes = parse_bytes(heap, "# 0g\r\n\r\n\t0a  fF\r\n\n00")?;
     assert!(rt; bytes.as_slice() == [10, 255, 0].as_slice());
     assert_eq!(rt;
-        bytes_fault(heap, "00\n\n00 0 0\n#\n0g"),
+        parse_bytes(heap, "00\n\n00 0 0\n#\n0g").err(),
         Some(ArchiveFault::NotAByte(3))
     );
     assert_eq!(rt;
-        bytes_fault(heap, "00\n #"),
+        parse_bytes(heap, "00\n #").err(),
         Some(ArchiveFault::NotAByte(2))
     );
     Ok(())
-}
-
-fn bytes_fault(heap: Global, text: &str) -> Option<ArchiveFault> {
-    match parse_bytes(heap, text) {
-        Ok(_) => None,
-        Err(e) => Some(e),
-    }
 }

@@ -18,9 +18,7 @@ fn check_sums(rt: HostRuntime) {
 // The total's four bytes, in a record that is otherwise empty.
 fn record_of(digits: [u8; 4]) -> [u8; 100] {
     let mut bytes = [0u8; 100];
-    for i in 0..4 {
-        bytes[95 + i] = digits[i];
-    }
+    bytes[95..99].copy_from_slice(&digits);
     bytes
 }
 
@@ -43,11 +41,11 @@ fn totals(rt: HostRuntime) {
 
 #[test]
 fn growths(rt: HostRuntime) {
-    assert_eq!(rt; Growth::between(Some(7), Some(5)), Growth::Rise(2));
-    assert_eq!(rt; Growth::between(Some(5), Some(5)), Growth::Rise(0));
-    assert_eq!(rt; Growth::between(Some(5), Some(7)), Growth::Fall(2));
-    assert_eq!(rt; Growth::between(None, Some(7)), Growth::Unknown);
-    assert_eq!(rt; Growth::between(Some(7), None), Growth::Unknown);
+    assert_eq!(rt; Growth::between(Some(7), Some(5)), Some(Growth::Rise(2)));
+    assert_eq!(rt; Growth::between(Some(5), Some(5)), Some(Growth::Rise(0)));
+    assert_eq!(rt; Growth::between(Some(5), Some(7)), Some(Growth::Fall(2)));
+    assert_eq!(rt; Growth::between(None, Some(7)), None);
+    assert_eq!(rt; Growth::between(Some(7), None), None);
 }
 
 #[test]

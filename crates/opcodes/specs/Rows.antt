@@ -1,10 +1,6 @@
 -- A row of the operand table, as a mask with a bit for each of the 32 columns.
-use Rattle.std.specs.Prelude.{◌≡◌, ℕ, ◌/◌, ◌%◌, ◌^◌, ◌<◌, not, ◌&&◌, List, ◌==◌, nat_eq, slice_index}
+use Rattle.std.specs.Prelude.{◌≡◌, ℕ, ◌/◌, ◌%◌, ◌^◌, ◌<◌, not, ◌&&◌, ◌==◌, nat_eq}
 use Rattle.opcodes.specs.Families.{known, admitted, takes_operand}
-
--- a table's row of that number
-unfoldable pub row : List ℕ → ℕ → ℕ
-row table x = slice_index table x
 
 pub record RowRight (x mask : ℕ) : Type 0 where
   pub columns : (c : ℕ) → c < 32 → (mask / 2 ^ c % 2 == 1) ≡ admitted x c

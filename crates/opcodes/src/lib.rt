@@ -5,6 +5,6 @@ mod naming;
 mod opcode;
 mod table;
 
-pub use naming::opcode_of;
+pub use naming::UnknownOpcode;
 pub use opcode::Opcode;
 pub use table::{admits, is_known, takes_operand};

@@ -3,8 +3,11 @@ ghost use Rattle.std.specs.Prelude.{◌≡◌};
 ghost use Rattle.opcodes.specs.Mnemonics.{mnemonic};
 ghost use Rattle.opcodes.specs.Numbers.{number};
 
-#[derive(Clone, Copy)]
+use std::fmt;
+
+#[derive(Clone, Copy, Debug, Default, PartialEq, Eq, Hash)]
 pub enum Opcode {
+    #[default]
     Nop = 0x00,
     L = 0x01,
     Ln = 0x02,
@@ -77,12 +80,6 @@ pub enum Opcode {
 }
 
 impl Opcode {
-    pub fn number(&self) -> u8
-        ensures { result ≡ number self.now }
-    {
-        *self as u8
-    }
-
     // As a listing has it.
     pub fn mnemonic(&self) -> &'static str
         ensures { result.now ≡ mnemonic self.now }
@@ -158,5 +155,19 @@ impl Opcode {
             Opcode::Shr => ">>",
             Opcode::End => "END",
         }
+    }
+}
+
+impl From<Opcode> for u8 {
+    ghost from_gives = { λ opcode byte. byte ≡ number opcode };
+
+    fn from(opcode: Opcode) -> u8 {
+        opcode as u8
+    }
+}
+
+impl fmt::Display for Opcode {
+    fn fmt<W: fmt::Write>(&self, f: &mut fmt::Formatter<W>) -> fmt::Result {
+        f.write_str(self.mnemonic())
     }
 }

@@ -1,7 +1,7 @@
 // Which operands each opcode admits.
 ghost use Rattle.std.specs.Prelude.{◌≡◌, ◌/◌};
 ghost use Rattle.opcodes.specs.Families.{known, admitted, takes_operand};
-ghost use Rattle.opcodes.specs.Rows.{RowRight, row};
+ghost use Rattle.opcodes.specs.Rows.{RowRight};
 
 // A mask has a bit for each value of an operand's first byte divided by 8.
 const NONE: u32 = 0;
@@ -23,8 +23,9 @@ const COUNTER: u32 = 0x00000040;
 // PC and PP.
 const RECORD: u32 = 0x0c000000;
 
-// A row for each opcode.
-const MASKS: [u32; 256] = [
+// A row for each opcode. The project is bound to this form: one table of bytes' masks, proved by one computed test over all its
+// rows and columns.
+static MASKS: [u32; 256] = [
     ALL,
     SOURCE,
     SOURCE,
@@ -300,19 +301,11 @@ pub fn admits(opcode: u8, first: u8) -> bool
 pub fn takes_operand(opcode: u8) -> bool
     ensures { result ≡ takes_operand opcode }
 {
-    let row = mask(opcode);
-    row != NONE && row != ALL
+    !matches!(mask(opcode), NONE | ALL)
 }
 
 fn mask(opcode: u8) -> u32
     ensures { RowRight opcode result }
 {
-    row_of(&MASKS, opcode)
-}
-
-// The table is handed over so that its rule can be proved of it as a whole.
-fn row_of(table: &[u32; 256], opcode: u8) -> u32
-    ensures { result ≡ row table.now opcode }
-{
-    table[opcode as usize]
+    MASKS[opcode as usize]
 }

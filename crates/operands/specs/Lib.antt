@@ -1,4 +1,3 @@
 pub mod Cells
-pub mod Constants
 pub mod Operands
 pub mod Parts

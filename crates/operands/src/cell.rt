@@ -2,9 +2,10 @@
 ghost use Rattle.std.specs.Prelude.{◌≡◌};
 ghost use Rattle.operands.specs.Cells.{cell};
 
+use constants::OperandBytes;
 use records::Record;
 
-#[derive(Clone, Copy)]
+#[derive(Clone, Copy, Debug, PartialEq, Eq)]
 pub enum Cell {
     // Event bits and their definiteness bits, of the current cycle or as the previous one left them.
     Event(Record, u8),
@@ -17,10 +18,11 @@ pub enum Cell {
 }
 
 // The cell that an operand's first byte and number name.
-pub fn cell_of(first: u8, number: u8) -> Option<Cell>
-    ensures { result ≡ cell first number }
+pub fn cell_of(bytes: OperandBytes) -> Option<Cell>
+    ensures { result ≡ cell bytes.p1 bytes.p2 }
 {
-    match first {
+    let number = bytes.p2;
+    match bytes.p1 {
         0x00 => Some(Cell::Event(Record::Current, number)),
         0x08 => Some(Cell::Event(Record::Previous, number)),
         0x10 => Some(Cell::Definite(Record::Current, number)),
@@ -28,7 +30,7 @@ pub fn cell_of(first: u8, number: u8) -> Option<Cell>
         0x20 => Some(Cell::Marker(number)),
         0x28 => Some(Cell::Register(number)),
         0x30 => Some(Cell::Counter(number)),
-        0x38..=0x3f => Some(Cell::Activity(first - 0x38)),
+        0x38..=0x3f => Some(Cell::Activity(bytes.p1 - 0x38)),
         _ => None,
     }
 }

@@ -1,10 +1,11 @@
 // What an instruction works on.
+use crate::base_record::BaseRecord;
 use crate::cell::Cell;
-use records::Record;
 
-#[derive(Clone, Copy)]
+#[derive(Clone, Copy, Debug, Default, PartialEq)]
 pub enum Operand {
     // None is taken, and the bytes are not looked at.
+    #[default]
     Nothing,
     // The number of an instruction.
     Address(u16),
@@ -12,12 +13,11 @@ pub enum Operand {
     Field(Field),
     Byte(MaskedByte),
     Constant(f64),
-    // A whole record of a base.
-    Whole(u8, Record),
+    Whole(BaseRecord),
 }
 
 // How a field's bytes make a number.
-#[derive(Clone, Copy)]
+#[derive(Clone, Copy, Debug, PartialEq, Eq)]
 pub enum Format {
     Bcd,
     Unsigned,
@@ -25,20 +25,18 @@ pub enum Format {
 }
 
 // A number of one to four bytes in a record, from the least significant byte on.
-#[derive(Clone, Copy)]
+#[derive(Clone, Copy, Debug, PartialEq, Eq)]
 pub struct Field {
-    pub base: u8,
-    pub which: Record,
+    pub from: BaseRecord,
     pub offset: u16,
     pub format: Format,
     pub length: u8,
 }
 
 // A byte of a record, joined with a mask by and.
-#[derive(Clone, Copy)]
+#[derive(Clone, Copy, Debug, PartialEq, Eq)]
 pub struct MaskedByte {
-    pub base: u8,
-    pub which: Record,
+    pub from: BaseRecord,
     pub offset: u16,
     pub mask: u8,
 }

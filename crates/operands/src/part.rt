@@ -1,30 +1,54 @@
 // Fields, bytes and whole records as operands: each must lie inside its base's layout.
-ghost use Rattle.std.specs.Prelude.{◌≡◌, ◌<◌};
-ghost use Rattle.operands.specs.Parts.{which_of, inside, format, field, masked_byte, whole};
+ghost use Rattle.std.specs.Prelude.{◌≡◌, ◌+◌, ◌*◌};
+ghost use Rattle.operands.specs.Parts.{format, field, masked_byte, whole};
 
-use crate::operand::{Field, Format, MaskedByte, Operand};
-use records::{Layout, Record};
+use crate::base_record::BaseRecord;
+use crate::operand::{Field, Format, MaskedByte};
+use constants::OperandBytes;
+use records::Layout;
 
-// Columns of the operand table come in pairs: current, then previous.
-pub fn which_of(first: u8) -> Record
-    ensures { result ≡ which_of first }
+pub fn field_of(bytes: OperandBytes, layouts: &[Layout; 8]) -> Option<Field>
+    ensures { result ≡ field layouts.now bytes.p1 (bytes.p2 + 256 * bytes.p3) bytes.p4 }
 {
-    if first / 8 % 2 == 0 {
-        Record::Current
-    } else {
-        Record::Previous
+    let from = BaseRecord::named_by(bytes.p1);
+    let offset = offset_of(bytes);
+    let format = format_of(bytes.p4 / 16)?;
+    let length = bytes.p4 % 16;
+    if !matches!(length, 1..=4) || !from.contains(layouts, offset, length) {
+        return None;
     }
+    Some(Field {
+        from,
+        offset,
+        format,
+        length,
+    })
 }
 
-// Whether so many bytes from an offset on lie inside a base that is present.
-fn is_inside(layouts: &[Layout; 8], base: u8, offset: u16, count: u8) -> bool
-    requires { base < 8 }
-    ensures { result ≡ inside layouts.now base offset count }
+pub fn byte_of(bytes: OperandBytes, layouts: &[Layout; 8]) -> Option<MaskedByte>
+    ensures { result ≡ masked_byte layouts.now bytes.p1 (bytes.p2 + 256 * bytes.p3) bytes.p4 }
 {
-    let length = layouts[base as usize].length as u32;
-    length > 0 && offset as u32 + count as u32 <= length
+    let from = BaseRecord::named_by(bytes.p1);
+    let offset = offset_of(bytes);
+    let mask = bytes.p4;
+    from.contains(layouts, offset, 1)
+        .then_some(MaskedByte { from, offset, mask })
 }
 
+pub fn whole_of(bytes: OperandBytes, layouts: &[Layout; 8]) -> Option<BaseRecord>
+    ensures { result ≡ whole layouts.now bytes.p1 }
+{
+    let from = BaseRecord::named_by(bytes.p1);
+    from.contains(layouts, 0, 0).then_some(from)
+}
+
+fn offset_of(bytes: OperandBytes) -> u16
+    ensures { result ≡ bytes.p2 + 256 * bytes.p3 }
+{
+    u16::from_le_bytes([bytes.p2, bytes.p3])
+}
+
+// An operand that does not fit is just none, so a code that names no format has no error type.
 fn format_of(code: u8) -> Option<Format>
     ensures { result ≡ format code }
 {
@@ -34,46 +58,4 @@ fn format_of(code: u8) -> Option<Format>
         0xc => Some(Format::Signed),
         _ => None,
     }
-}
-
-pub fn field_of(layouts: &[Layout; 8], first: u8, offset: u16, kind: u8) -> Option<Operand>
-    ensures { result ≡ field layouts.now first offset kind }
-{
-    let length = kind % 16;
-    let Some(format) = format_of(kind / 16) else {
-        return None;
-    };
-    if length < 1 || length > 4 || !is_inside(layouts, first % 8, offset, length) {
-        return None;
-    }
-    Some(Operand::Field(Field {
-        base: first % 8,
-        which: which_of(first),
-        offset,
-        format,
-        length,
-    }))
-}
-
-pub fn byte_of(layouts: &[Layout; 8], first: u8, offset: u16, mask: u8) -> Option<Operand>
-    ensures { result ≡ masked_byte layouts.now first offset mask }
-{
-    if !is_inside(layouts, first % 8, offset, 1) {
-        return None;
-    }
-    Some(Operand::Byte(MaskedByte {
-        base: first % 8,
-        which: which_of(first),
-        offset,
-        mask,
-    }))
-}
-
-pub fn whole_of(layouts: &[Layout; 8], first: u8) -> Option<Operand>
-    ensures { result ≡ whole layouts.now first }
-{
-    if !is_inside(layouts, first % 8, 0, 0) {
-        return None;
-    }
-    Some(Operand::Whole(first % 8, which_of(first)))
 }

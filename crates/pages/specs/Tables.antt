@@ -5,7 +5,7 @@ use Rattle.records.specs.Layouts.{lawful}
 use Rattle.records.specs.Meaning.{Same}
 use Rattle.pages.specs.declared.placement.Placement.{Placement}
 use Rattle.pages.specs.Placements.{placement}
-use Rattle.pages.specs.Pages.{page, by_rows, by_columns}
+use Rattle.pages.specs.Pages.{page, by_rows}
 
 -- a table of a placement's shape: as many rows, each as long as the layout
 pub record Shaped (p : Placement) (table : List (List ℕ)) : Type 0 where
@@ -27,15 +27,15 @@ column_after_column len table = flat_map (column table) (range_with_len 0 len)
 abbrev pub Lies : List ℕ → ℕ → List ℕ → Type 0
 Lies bytes start xs = take (length xs) (drop start bytes) ≡ xs
 
--- one table, lying row after row in some bytes and column after column in others
-pub record Transposed (rs cs : List ℕ) (p : Placement) : Type 0 where
+-- one table, lying row after row in some bytes and as it is written otherwise in others
+pub record Transposed (written : ℕ → List (List ℕ) → List ℕ) (rs others : List ℕ) (p : Placement) : Type 0 where
   pub table : List (List ℕ)
   pub shaped : Shaped p table
   pub rows_lie : Lies rs p.start (row_after_row p.layout.length table)
-  pub columns_lie : Lies cs p.start (column_after_column p.layout.length table)
+  pub others_lie : Lies others p.start (written p.layout.length table)
 
--- a row page whose tables are the transposed ones of this column page, placed alike, means the same
-abbrev pub Alike : List ℕ → List Placement → Type 0
-Alike cs ps =
-    (rs : List ℕ) → ((b : ℕ) → lawful (placement ps b).layout ≡ true → Transposed rs cs (placement ps b))
-    → Same (page by_rows rs ps) (page by_columns cs ps)
+-- a row page whose tables are the transposed ones of this page, placed alike, means the same
+abbrev pub Alike : (Placement → ℕ → ℕ → ℕ) → (ℕ → List (List ℕ) → List ℕ) → List ℕ → List Placement → Type 0
+Alike address written others ps =
+    (rs : List ℕ) → ((b : ℕ) → lawful (placement ps b).layout ≡ true → Transposed written rs others (placement ps b))
+    → Same (page by_rows rs ps) (page address others ps)

@@ -1,14 +1,10 @@
 // Where a base's rows lie in a page's bytes, and which row is the current one.
-ghost use Rattle.std.specs.Prelude.{◌≡◌, ◌<◌, length, if◌then◌else◌};
-ghost use Rattle.pages.specs.Placements.{nowhere, placement, fits, placeable, turnable, placed, turned};
-ghost use Rattle.pages.specs.Pages.{row_number};
-ghost use Rattle.pages.specs.Refusals.{answer};
+ghost use Rattle.std.specs.Prelude.{◌≡◌};
 
-use crate::refusal::Refusal;
 use records::{Layout, Record};
 
 // A table of `rows` rows of the layout's length, whose bytes begin at `start`.
-#[derive(Clone, Copy)]
+#[derive(Clone, Copy, Debug, PartialEq, Eq)]
 pub struct Placement {
     pub layout: Layout,
     pub start: usize,
@@ -17,11 +13,14 @@ pub struct Placement {
 }
 
 impl Placement {
+    ghost use Rattle.pages.specs.Placements.{fits};
+    ghost use Rattle.pages.specs.Pages.{row_number};
+
     pub const MOST_ROWS: u32 = 65_535;
 
     // Of a base that is absent.
     pub const NOWHERE: Placement = Placement {
-        layout: Layout { length: 0 },
+        layout: Layout::ABSENT,
         start: 0,
         rows: 0,
         row: 0,
@@ -54,50 +53,4 @@ impl Placement {
             Record::Previous => self.row.saturating_sub(1),
         }
     }
-}
-
-// The placements of a page's eight bases.
-pub type Bases = [Placement; 8];
-
-pub fn of_base(bases: &Bases, base: u8) -> Placement
-    ensures value { result ≡ placement bases.now base }
-    ensures beyond { 7 < base → result ≡ nowhere }
-{
-    if base > 7 {
-        return Placement::NOWHERE;
-    }
-    bases[base as usize]
-}
-
-pub fn place(
-    bases: &mut Bases,
-    capacity: usize,
-    base: u8,
-    placement: Placement,
-) -> Result<(), Refusal>
-    ensures answer { result ≡ answer (placeable capacity base placement) }
-    ensures after { bases.new ≡ (if placeable capacity base placement then placed bases.old base placement else bases.old) }
-{
-    if base > 7 || !placement.fits(capacity) {
-        return Err(Refusal::BadPlacement);
-    }
-    bases[base as usize] = placement;
-    Ok(())
-}
-
-pub fn turn(bases: &mut Bases, base: u8, row: u32) -> Result<(), Refusal>
-    ensures answer { result ≡ answer (turnable bases.old base row) }
-    ensures after { bases.new ≡ (if turnable bases.old base row then turned bases.old base row else bases.old) }
-{
-    let old = of_base(bases, base);
-    if base > 7 || old.layout.is_absent() || row < 1 || row >= old.rows {
-        return Err(Refusal::BadPlacement);
-    }
-    bases[base as usize] = Placement {
-        layout: old.layout,
-        start: old.start,
-        rows: old.rows,
-        row,
-    };
-    Ok(())
 }

@@ -2,18 +2,29 @@
 ghost use Rattle.std.specs.Prelude.{◌≡◌};
 ghost use Rattle.pages.specs.Refusals.{number};
 
+use std::error::Error;
+use std::fmt;
+
 #[derive(Clone, Copy, PartialEq, Eq, Debug)]
 pub enum Refusal {
     // The placement is not one that this page can hold, or there is none to turn.
-    BadPlacement,
+    BadPlacement = 9,
 }
 
-impl Refusal {
-    pub fn number(&self) -> u8
-        ensures { result ≡ number self.now }
-    {
+impl From<Refusal> for u8 {
+    ghost from_gives = { λ refusal n. n ≡ number refusal };
+
+    fn from(refusal: Refusal) -> u8 {
+        refusal as u8
+    }
+}
+
+impl fmt::Display for Refusal {
+    fn fmt<W: fmt::Write>(&self, f: &mut fmt::Formatter<W>) -> fmt::Result {
         match self {
-            Refusal::BadPlacement => 9,
+            Refusal::BadPlacement => f.write_str("no placement that the page can hold"),
         }
     }
 }
+
+impl Error for Refusal {}

@@ -1,14 +1,13 @@
 // A row page and a column page that are asked the same.
 use crate::expected::{check_base, check_only};
-use pages::{ColumnPage, Placement, Refusal, RowPage};
+use pages::{Arrangement, ColumnPage, Page, Placement, Refusal, RowPage};
+use records::Source;
 use std::process::Abort;
 
 #[derive(Drop)]
 pub struct Both<'a> {
     pub rows: RowPage<'a>,
     pub columns: ColumnPage<'a>,
-    // How many bytes the first has, for messages.
-    size: usize,
 }
 
 impl<'a> Both<'a> {
@@ -16,33 +15,27 @@ impl<'a> Both<'a> {
         Both {
             rows: RowPage::new(by_rows),
             columns: ColumnPage::new(by_columns),
-            size: by_rows.len(),
         }
     }
 
-    // Both pages give this answer: 0 where they take the placement, else the refusal's number.
+    // Both pages give this answer: 0 where they take the placement, else the refusal's number. It stays a number, so that each
+    // case tests the refusal's too.
     pub fn place(&mut self, rt: &impl Abort, base: u8, placement: Placement, answer: u8) {
-        let in_rows = number(self.rows.place(base, placement));
-        assert_eq!(rt;
-            in_rows,
-            answer,
-            "in rows, at base {base}, length {}, start {}, {} rows, row {}, {} bytes",
-            placement.layout.length, placement.start, placement.rows, placement.row, self.size
-        );
-        let in_columns = number(self.columns.place(base, placement));
-        assert_eq!(rt;
-            in_columns,
-            answer,
-            "in columns, at base {base}, length {}, start {}, {} rows, row {}, {} bytes",
-            placement.layout.length, placement.start, placement.rows, placement.row, self.size
-        );
+        check_placed(rt, "in rows", &mut self.rows, base, placement, answer);
+        check_placed(rt, "in columns", &mut self.columns, base, placement, answer);
     }
 
     pub fn turn(&mut self, rt: &impl Abort, base: u8, row: u32, answer: u8) {
-        let in_rows = number(self.rows.turn(base, row));
-        assert_eq!(rt; in_rows, answer, "in rows, at base {base}, row {row}");
-        let in_columns = number(self.columns.turn(base, row));
-        assert_eq!(rt; in_columns, answer, "in columns, at base {base}, row {row}");
+        check_turned(rt, "in rows", &mut self.rows, base, row, answer);
+        check_turned(rt, "in columns", &mut self.columns, base, row, answer);
+    }
+
+    // How long the records of a base are in each.
+    pub fn lengths(&self, base: u8) -> (u16, u16) {
+        (
+            self.rows.layout(base).length,
+            self.columns.layout(base).length,
+        )
     }
 
     // Both pages show these records.
@@ -58,9 +51,30 @@ impl<'a> Both<'a> {
     }
 }
 
-fn number(answer: Result<(), Refusal>) -> u8 {
-    match answer {
-        Ok(()) => 0,
-        Err(refusal) => refusal.number(),
-    }
+fn check_placed<A: Arrangement>(
+    rt: &impl Abort,
+    place: &str,
+    page: &mut Page<'_, A>,
+    base: u8,
+    placement: Placement,
+    answer: u8,
+) {
+    let number = number_of(page.place(base, placement));
+    assert_eq!(rt; number, answer, "{place}, base {base}, {placement:?}");
+}
+
+fn check_turned<A: Arrangement>(
+    rt: &impl Abort,
+    place: &str,
+    page: &mut Page<'_, A>,
+    base: u8,
+    row: u32,
+    answer: u8,
+) {
+    let number = number_of(page.turn(base, row));
+    assert_eq!(rt; number, answer, "{place}, base {base}, row {row}");
+}
+
+fn number_of(answer: Result<(), Refusal>) -> u8 {
+    answer.err().map_or(0, u8::from)
 }

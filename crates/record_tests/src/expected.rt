@@ -26,18 +26,16 @@ fn check_record<S: Source>(
     which: Record,
     bytes: &[u8],
 ) {
-    for offset in 0..bytes.len() {
-        let byte = source.byte(base, which, offset);
+    for (offset, byte) in bytes.iter().enumerate() {
         assert_eq!(rt;
-            byte,
-            Some(bytes[offset]),
+            source.byte(base, which, offset),
+            Some(*byte),
             "{place}, {which:?} record of base {base}, offset {offset}"
         );
     }
     for offset in [bytes.len(), usize::MAX] {
-        let byte = source.byte(base, which, offset);
         assert_eq!(rt;
-            byte,
+            source.byte(base, which, offset),
             None,
             "{place}, {which:?} record of base {base}, offset {offset}"
         );
@@ -55,9 +53,5 @@ pub fn check_only<S: Source>(rt: &impl Abort, place: &str, source: &S, present: 
 
 // Byte i is the rest of i by 251.
 pub fn counted(heap: Global, count: usize) -> Result<Vec<u8>, AllocError> {
-    let mut bytes = Vec::new(heap);
-    for i in 0..count {
-        bytes.push((i % 251) as u8)?;
-    }
-    Ok(bytes)
+    (0..count).map(|i| (i % 251) as u8).collect(heap)
 }

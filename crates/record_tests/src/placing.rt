@@ -2,7 +2,7 @@
 use crate::both::Both;
 use crate::expected::counted;
 use pages::Placement;
-use records::{Layout, Source};
+use records::Layout;
 use std::process::Abort;
 use std::test::*;
 
@@ -16,23 +16,9 @@ fn check_placing(rt: &impl Abort, bytes: &[u8], base: u8, placement: Placement, 
     let mut pages = Both::new(bytes, bytes);
     pages.place(rt, base, placement, answer);
     assert_eq!(rt;
-        pages.rows.layout(base).length,
-        length,
-        "in rows, at base {base}, length {}, start {}, {} rows, row {}, {} bytes",
-        placement.layout.length,
-        placement.start,
-        placement.rows,
-        placement.row,
-        bytes.len()
-    );
-    assert_eq!(rt;
-        pages.columns.layout(base).length,
-        length,
-        "in columns, at base {base}, length {}, start {}, {} rows, row {}, {} bytes",
-        placement.layout.length,
-        placement.start,
-        placement.rows,
-        placement.row,
+        pages.lengths(base),
+        (length, length),
+        "base {base}, {placement:?}, {} bytes",
         bytes.len()
     );
 }

@@ -25,8 +25,6 @@ impl<C: Source, P: Source> Joint<C, P> {
 impl<C: Source, P: Source> Source for Joint<C, P> {
     ghost meaning = { λ s. joined (C.Source.meaning s.current) (P.Source.meaning s.previous) };
 
-    ghost keeps = { λ s. joined_lawful (C.Source.keeps s.current) (P.Source.keeps s.previous) };
-
     // A base whose two sides differ is absent.
     fn layout(&self, base: u8) -> Layout {
         let current = self.current.layout(base);
@@ -47,4 +45,6 @@ impl<C: Source, P: Source> Source for Joint<C, P> {
             Record::Previous => self.previous.byte(base, which, offset),
         }
     }
+
+    ghost keeps = { λ s. joined_lawful (C.Source.keeps s.current) (P.Source.keeps s.previous) };
 }

@@ -1,4 +1,4 @@
 pub mod Measuring
-pub mod Capping
 pub mod Scanning
+pub mod Capping
 pub mod Judging

@@ -1,29 +1,48 @@
--- Depths, sections and called addresses, one instruction after another.
-use Rattle.std.proofs.Common.{◌≡◌, ℕ, zero, suc, ◌+◌, ◌<◌, ◌≤◌, Bool, true, false, cond, ◌||◌, List, [], ◌∷◌, ◌++◌, length, get_or, take, set, sym, refl, ap, ◌∙◌, ⊎_elim, add-one, arith}
-use Rattle.std.proofs.Math.Bool.{or_comm, or_assoc}
-use Rattle.std.proofs.lemmas.List.{take_more, take_all, get_or-set_same, get_or-set_other}
-use Rattle.std.proofs.lemmas.Bool.{ne_eqb, cases_eq}
+-- Called addresses, depths, sections and ranks, one instruction after another.
+use Rattle.std.proofs.Common.{◌≡◌, ℕ, zero, suc, ◌+◌, ◌<◌, ◌≤◌, max, Bool, true, false, cond, ◌||◌, eqb, List, [], ◌∷◌, length, get_or, take, set, Some, None, Option, is_some, unwrap_or, slice_get, sym, refl, ap, ◌∙◌, ⊎_elim, add-one, arith}
+use Rattle.std.specs.Bool.{then_some}
+use Rattle.std.specs.Option.{option_map}
+use Rattle.std.proofs.Math.Bool.{or_comm}
+use Rattle.std.proofs.lemmas.List.{take_all, length-set, get_or-set_same, get_or-set_other}
+use Rattle.std.proofs.lemmas.Option.{slice_get-get_or, get_or_from_slice_get}
+use Rattle.std.proofs.lemmas.Bool.{eq-eqb, ne_eqb, cases_eq, cond_both}
+use Rattle.std.specs.List.{list_any}
+use Rattle.std.proofs.lemmas.List.Folds.{list_any_more}
 use Rattle.control.specs.declared.control.Control.{Control}
-use Rattle.control.specs.declared.control.Control.TheVariants.{Plain, Push, Pop, JumpIf, Jump, Call, Return, End}
-use Rattle.control.specs.Texts.{at, ground, stacked, depth, calls, called, starts, section}
+use Rattle.control.specs.declared.control.Control.TheVariants.{Plain, Push, Call}
+use Rattle.control.specs.declared.place.Place.{Place}
+use Rattle.control.specs.Rules.{place}
+use Rattle.control.specs.Texts.{at, ground, stacked, depth, calls, called, starts, section, asked_more, ranks, rank}
 
-pub called_none : (s : ℕ) → called [] s ≡ false
+-- ---- the addresses that are called
+
+pub called_is : (text : List Control) (s : ℕ) → list_any (λ c. calls c s) text ≡ called text s
 unfolding called
-called_none s = refl
+called_is [] s = refl
+called_is (c ∷ cs) s = ap (λ b. calls c s || b) (called_is cs s)
 
-called_push : (xs : List Control) (c : Control) (s : ℕ) → called (xs ++ c ∷ []) s ≡ (calls c s || called xs s)
-unfolding called
-called_push [] c s = refl
-called_push (x ∷ xs) c s =
-    ap (λ b. calls x s || b) (called_push xs c s)
-    ∙ (sym (or_assoc (calls x s) (calls c s) (called xs s))
-    ∙ (ap (λ b. b || called xs s) (or_comm (calls x s) (calls c s)) ∙ or_assoc (calls c s) (calls x s) (called xs s)))
+pub called_all : (text : List Control) (i s : ℕ) → length text ≤ i → list_any (λ c. calls c s) (take i text) ≡ called text s
+called_all text i s h = ap (list_any (λ c. calls c s)) (take_all i text h) ∙ called_is text s
 
-pub called_more : (text : List Control) (i s : ℕ) → i < length text → called (take (i + 1) text) s ≡ (calls (at text i) s || called (take i text) s)
-called_more text i s h = ap (λ xs. called xs s) (take_more text i Plain h) ∙ called_push (take i text) (at text i) s
+marked : (asked : List (Option ℕ)) (i s : ℕ) (b : Bool) → i < length asked → get_or asked s None ≡ then_some b 1
+    → get_or (set asked i (Some 1)) s None ≡ then_some (b || eqb i s) 1
+marked asked i s b h e =
+    ⊎_elim (λ (same : i ≡ s). rw (eq-eqb i s same, or_comm b true) (ap (λ k. get_or (set asked i (Some 1)) k None) (sym same) ∙ get_or-set_same asked i (Some 1) None h))
+    (λ apart. rw (ne_eqb i s apart, or_comm b false) (get_or-set_other asked i s (Some 1) None (λ k. apart (sym k)) ∙ e)) (cases_eq i s)
 
-pub called_all : (text : List Control) (i s : ℕ) → length text ≤ i → called (take i text) s ≡ called text s
-called_all text i s h = ap (λ xs. called xs s) (take_all i text h)
+calls_none : (c : Control) (s : ℕ) → ((x : ℕ) → c ≡ Call x → ⊥) → calls c s ≡ false
+calls_none (Call k) s h = absurd (h k refl)
+calls_none _ s h = refl
+
+-- one instruction more: a call, and any other
+module _ (text : List Control) (i s : ℕ) (asked : List (Option ℕ)) (h : i < length text) (so_far : get_or asked s None ≡ then_some (list_any (λ c. calls c s) (take i text)) 1) where
+  pub called_by : (target : ℕ) → at text i ≡ Call target → target < length asked → get_or (set asked target (Some 1)) s None ≡ then_some (list_any (λ c. calls c s) (take (i + 1) text)) 1
+  called_by target e inside = rw (list_any_more (λ c. calls c s) text i Plain h, e) (marked asked target s (list_any (λ c. calls c s) (take i text)) inside so_far)
+
+  pub called_still : ((x : ℕ) → at text i ≡ Call x → ⊥) → get_or asked s None ≡ then_some (list_any (λ c. calls c s) (take (i + 1) text)) 1
+  called_still none = rw (list_any_more (λ c. calls c s) text i Plain h, calls_none (at text i) s none, or_comm (list_any (λ c. calls c s) (take i text)) false) so_far
+
+-- ---- depths
 
 pub depth_start : (text : List Control) → ground ≡ depth text 0
 unfolding depth
@@ -35,33 +54,110 @@ depth_next text i = sym (ap (λ n. depth text n) (add-one i))
 
 stacked_high : (c : Control) (d : ℕ) → stacked c d ≤ d + 1
 stacked_high Push d = omega arith
-stacked_high Pop d = omega arith
-stacked_high Plain d = omega arith
-stacked_high (JumpIf k) d = omega arith
-stacked_high (Jump k) d = omega arith
-stacked_high (Call k) d = omega arith
-stacked_high Return d = omega arith
-stacked_high End d = omega arith
+stacked_high _ d = omega arith
 
 pub depth_high : (text : List Control) (n : ℕ) → depth text n ≤ ground + n
 unfolding depth
 depth_high text zero = omega arith
 depth_high text (suc n) = omega (arith, stacked_high (at text n) (depth text n), depth_high text n)
 
+-- ---- sections
+
 pub starts_later : (text : List Control) (n : ℕ) → starts text (suc n) ≡ called text (suc n)
 starts_later text n = ap (λ b. b || called text (suc n)) (ne_eqb (suc n) 0 (λ e. omega arith))
 
-pub section_next : (text : List Control) (i start : ℕ) (begins : Bool) → begins ≡ called text i → ((n : ℕ) → suc n ≡ i → start ≡ section text n) → (i ≡ 0 → start ≡ 0)
-    → cond begins i start ≡ section text i
+pub section_start : (text : List Control) → section text 0 ≡ 0
 unfolding section
-section_next text zero start true e h z = refl
-section_next text zero start false e h z = z refl
-section_next text (suc n) start true e h z = ap (λ b. cond b (suc n) (section text n)) (e ∙ sym (starts_later text n))
-section_next text (suc n) start false e h z = h n refl ∙ ap (λ b. cond b (suc n) (section text n)) (e ∙ sym (starts_later text n))
+section_start text = refl
+
+section_next : (text : List Control) (n : ℕ) → cond (called text (n + 1)) (n + 1) (section text n) ≡ section text (n + 1)
+unfolding section
+section_next text n = rw add-one (ap (λ b. cond b (suc n) (section text n)) (sym (starts_later text n)))
+
+-- ---- ranks
+
+pub asked_start : (text : List Control) (s : ℕ) → (ranks text 0).asked s ≡ 1
+unfolding ranks
+asked_start text s = refl
+
+pub rank_start : (text : List Control) → rank text 0 ≡ 0
+unfolding ranks
+rank_start text = refl
+
+raised : (c b : Bool) (f : ℕ → ℕ) (x : ℕ) → cond c (option_map f (then_some b x)) (then_some b x) ≡ then_some b (cond c (f x) x)
+raised true true f x = refl
+raised true false f x = refl
+raised false b f x = refl
+
+pub asked_next : (text : List Control) (n s here : ℕ) (old new : Option ℕ) → here ≡ rank text n → old ≡ then_some (called text s) ((ranks text n).asked s)
+    → new ≡ cond (calls (at text n) s) (option_map (λ r. max r (1 + here)) old) old → new ≡ then_some (called text s) ((ranks text (n + 1)).asked s)
+unfolding ranks
+asked_next text n s here old new eh eo e =
+    rw (e, eo, eh, add-one) (raised (calls (at text n) s) (called text s) (λ r. max r (1 + rank text n)) ((ranks text n).asked s))
+
+rank_next : (text : List Control) (n : ℕ) → cond (called text (n + 1)) ((ranks text (n + 1)).asked (n + 1)) (rank text n) ≡ rank text (n + 1)
+unfolding ranks
+rank_next text n = rw add-one (ap (λ b. cond b ((ranks text (suc n)).asked (suc n)) (rank text n)) (sym (starts_later text n)))
+
+-- a rank never passes the number of instructions before it
+pub ranks_low : (text : List Control) (n : ℕ) → (rank text n ≤ n) × ((s : ℕ) → (ranks text n).asked s ≤ n + 1)
+unfolding ranks
+ranks_low text zero = (omega arith, λ s. omega arith)
+ranks_low text (suc n) =
+    let below = ranks_low text n in
+    let asked : (s : ℕ) → asked_more (at text n) (ranks text n) s ≤ suc n =
+    λ s. cond_both (calls (at text n) s) _ _ (λ r. r ≤ suc n) (λ _. omega (arith, below.0, below.1 s)) (λ _. omega (arith, below.1 s)) in
+    (cond_both (starts text (suc n)) _ _ (λ r. r ≤ suc n) (λ _. asked (suc n)) (λ _. omega (arith, below.0)), λ s. omega (arith, asked s))
 
 -- a table that is filled from its start, one entry more
-pub filled_more : {X : Type 0} (f : ℕ → X) (d : X) (xs : List X) (i : ℕ) (v : X) → i < length xs → ((n : ℕ) → n < i → get_or xs n d ≡ f n) → v ≡ f i
+filled_more : {X : Type 0} (f : ℕ → X) (d : X) (xs : List X) (i : ℕ) (v : X) → i < length xs → ((n : ℕ) → n < i → get_or xs n d ≡ f n) → v ≡ f i
     → (n : ℕ) → n < i + 1 → get_or (set xs i v) n d ≡ f n
 filled_more f d xs i v lt below here n h =
     ⊎_elim (λ (same : n ≡ i). ap (λ k. get_or (set xs i v) k d) same ∙ (get_or-set_same xs i v d lt ∙ (here ∙ ap f (sym same))))
     (λ apart. get_or-set_other xs i n v d apart ∙ below n (omega arith)) (cases_eq n i)
+
+-- ---- where an instruction stands
+
+-- a place is that of an instruction, but for whether it is the last of its section
+pub record Stands (text : List Control) (n : ℕ) (p : Place) : Type 0 where
+  pub number : p.number ≡ n
+  pub depth : p.depth ≡ depth text n
+  pub section : p.section ≡ section text n
+  pub rank : p.rank ≡ rank text n
+
+begins_is : (m : Bool) (r : ℕ) → is_some (then_some m r) ≡ m
+begins_is true r = refl
+begins_is false r = refl
+
+first_or : (m : Bool) (r d : ℕ) → unwrap_or (then_some m r) d ≡ cond m r d
+first_or true r d = refl
+first_or false r d = refl
+
+pub last_is : (text : List Control) (n r : ℕ) (o : Option ℕ) (last : Bool) → o ≡ then_some (called text (n + 1)) r → last ≡ (is_some o || eqb (n + 1) (length text))
+    → last ≡ (eqb (n + 1) (length text) || starts text (n + 1))
+last_is text n r o last eo e = rw (e, eo, begins_is, add-one, starts_later) (or_comm (called text (suc n)) (eqb (suc n) (length text)))
+
+pub placed : (text : List Control) (n : ℕ) (p : Place) (last : Bool) → Stands text n p → last ≡ (eqb (n + 1) (length text) || starts text (n + 1))
+    → ◌≡◌ {A = Place} (record { number = p.number; depth = p.depth; section = p.section; rank = p.rank; last = last }) (place text n)
+placed text n p last s e = cc (s.number, s.depth, s.section, s.rank)
+
+-- a table of places, one more
+pub mapped_more : (text : List Control) (places : List Place) (n : ℕ) (p : Place) → n < length places
+    → ((k : ℕ) → k < n → slice_get places k ≡ Some (place text k)) → p ≡ place text n
+    → (k : ℕ) → k < n + 1 → slice_get (set places n p) k ≡ Some (place text k)
+mapped_more text places n p inside below here k h =
+    let d = place text k in
+    slice_get-get_or (set places n p) k d (omega (arith, length-set places n p))
+    ∙ ap Some (filled_more (place text) d places n p inside (λ j lt. get_or_from_slice_get places j (place text j) d (below j lt)) here k h)
+
+pub stands_next : (text : List Control) (n : ℕ) (p q : Place) (begins : Option ℕ) → Stands text n p → begins ≡ then_some (called text (n + 1)) ((ranks text (n + 1)).asked (n + 1))
+    → q.number ≡ p.number + 1 → q.depth ≡ stacked (at text n) p.depth → q.section ≡ cond (is_some begins) (p.number + 1) p.section → q.rank ≡ unwrap_or begins p.rank
+    → Stands text (n + 1) q
+stands_next text n p q begins s eb en ed es er =
+    let asked = (ranks text (n + 1)).asked (n + 1) in
+    record {
+      number = rw en (ap (λ k. k + 1) s.number);
+      depth = rw (ed, s.depth) (depth_next text n);
+      section = rw (es, eb, begins_is, s.number, s.section) (section_next text n);
+      rank = rw (er, eb, first_or, s.rank) (rank_next text n);
+    }

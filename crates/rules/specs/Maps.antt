@@ -1,10 +1,9 @@
--- Tables of what a text says of each instruction.
-use Rattle.std.specs.Prelude.{◌≡◌, ℕ, ◌<◌, Bool, false, List, length, slice_index, slice_index_or}
+-- A table of where each instruction of a text stands.
+use Rattle.std.specs.Prelude.{◌≡◌, ℕ, ◌<◌, List, length, Some, slice_get}
 use Rattle.control.specs.declared.control.Control.{Control}
-use Rattle.control.specs.Texts.{called, depth, section}
+use Rattle.control.specs.declared.place.Place.{Place}
+use Rattle.control.specs.Rules.{place}
 
--- the tables hold which addresses are called, and the depth and the section of each instruction
-pub record Mapped (text : List Control) (marks : List Bool) (levels sections : List ℕ) : Type 0 where
-  pub marked : (s : ℕ) → s < 1024 → slice_index_or marks s false ≡ called text s
-  pub levelled : (n : ℕ) → n < length text → slice_index levels n ≡ depth text n
-  pub sectioned : (n : ℕ) → n < length text → slice_index sections n ≡ section text n
+-- the table holds the place of each instruction
+abbrev pub Mapped : List Control → List Place → Type 0
+Mapped text places = (n : ℕ) → n < length text → slice_get places n ≡ Some (place text n)

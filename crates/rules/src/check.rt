@@ -3,11 +3,12 @@ ghost use Rattle.std.specs.Prelude.{◌≡◌, ◌<◌};
 ghost use Rattle.control.specs.Texts.{stacked};
 ghost use Rattle.control.specs.Rules.{first_of, checks, address};
 
-use control::{Control, LoadingCode, Place};
+use control::{Control, LoadingCode, MOST_INSTRUCTIONS, Place};
 
 // Depths are counted from here, so that none falls below 0.
-pub const GROUND: u16 = 1024;
+pub const GROUND: u16 = MOST_INSTRUCTIONS as u16;
 
+// A function of this crate, as are `stack` and `goes_back`: a method of `Control` would promise it to everybody.
 pub fn address_of(kind: Control) -> u16
     ensures { result ≡ address kind }
 {
@@ -17,82 +18,31 @@ pub fn address_of(kind: Control) -> u16
     }
 }
 
-// The first rule that an instruction breaks, with the depth and the section at its address.
-pub fn check(kind: Control, place: Place, depth: u16, section: u16) -> Option<LoadingCode>
-    ensures { result ≡ first_of (checks kind place depth section) }
+// The first rule that an instruction breaks, in the order in which they are told, with the place of its address.
+pub fn check(kind: Control, place: Place, target: Place) -> Option<LoadingCode>
+    ensures { result ≡ first_of (checks kind place target.depth target.section) }
 {
     match kind {
-        Control::Plain => runs_on(place),
-        Control::Push => {
-            if place.depth == GROUND + 8 {
-                return Some(LoadingCode::PushAtEight);
-            }
-            runs_on(place)
+        Control::Push if place.depth == GROUND + 8 => Some(LoadingCode::PushAtEight),
+        Control::Pop if place.depth == GROUND => Some(LoadingCode::PopAtZero),
+        Control::JumpIf(_) | Control::Jump(_) if target.depth != place.depth => {
+            Some(LoadingCode::DepthDiffers)
         }
-        Control::Pop => {
-            if place.depth == GROUND {
-                return Some(LoadingCode::PopAtZero);
-            }
-            runs_on(place)
+        Control::JumpIf(_) | Control::Jump(_) if target.section != place.section => {
+            Some(LoadingCode::LeavesSection)
         }
-        Control::JumpIf(_) => {
-            if depth != place.depth {
-                return Some(LoadingCode::DepthDiffers);
-            }
-            if section != place.section {
-                return Some(LoadingCode::LeavesSection);
-            }
-            runs_on(place)
+        Control::Call(_) if place.depth != GROUND || target.depth != GROUND => {
+            Some(LoadingCode::DepthDiffers)
         }
-        Control::Jump(_) => {
-            if depth != place.depth {
-                return Some(LoadingCode::DepthDiffers);
-            }
-            if section != place.section {
-                return Some(LoadingCode::LeavesSection);
-            }
-            None
-        }
-        Control::Call(target) => check_call(target, place, depth),
-        Control::Return => {
-            if place.depth != GROUND {
-                return Some(LoadingCode::DepthDiffers);
-            }
-            if place.section == 0 {
-                return Some(LoadingCode::ReturnOutside);
-            }
-            None
-        }
-        Control::End => None,
+        Control::Return if place.depth != GROUND => Some(LoadingCode::DepthDiffers),
+        Control::Return if place.section == 0 => Some(LoadingCode::ReturnOutside),
+        Control::Jump(_) | Control::Return | Control::End => None,
+        // The others go on with the next instruction, which must be of the same section.
+        _ if place.last => Some(LoadingCode::SectionRunsOn),
+        Control::Call(address) if address <= place.number => Some(LoadingCode::CallsBack),
+        Control::Call(_) if place.rank == 8 => Some(LoadingCode::CallTooDeep),
+        _ => None,
     }
-}
-
-fn check_call(target: u16, place: Place, depth: u16) -> Option<LoadingCode>
-    ensures { result ≡ first_of (checks (Control.Call target) place depth 0) }
-{
-    if place.depth != GROUND || depth != GROUND {
-        return Some(LoadingCode::DepthDiffers);
-    }
-    if place.last {
-        return Some(LoadingCode::SectionRunsOn);
-    }
-    if target <= place.number {
-        return Some(LoadingCode::CallsBack);
-    }
-    if place.rank == 8 {
-        return Some(LoadingCode::CallTooDeep);
-    }
-    None
-}
-
-// A section's last instruction must not go on to the next.
-fn runs_on(place: Place) -> Option<LoadingCode>
-    ensures { result ≡ first_of (checks Control.Plain place 0 0) }
-{
-    if place.last {
-        return Some(LoadingCode::SectionRunsOn);
-    }
-    None
 }
 
 // The depth after an instruction.

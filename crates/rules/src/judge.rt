@@ -1,47 +1,31 @@
 // The judgment on a text.
 ghost use Rattle.std.specs.Prelude.{◌≡◌, length};
-ghost use Rattle.rules.specs.Judgments.{formed, all_below, judgment, Says, Trusted};
+ghost use Rattle.control.specs.Rules.{first_broken};
+ghost use Rattle.control.specs.Weights.{bound};
+ghost use Rattle.rules.specs.Judgments.{judgment, told, Says, Trusted};
 
-use crate::check::address_of;
-use crate::scan::first_broken;
-use crate::weigh::step_bound;
-use control::{Control, LoadingCode, MOST_INSTRUCTIONS};
+use crate::error::TextError;
+use crate::text::Text;
+use control::Control;
 
-#[derive(Clone, Copy, PartialEq, Debug)]
-pub enum Judgment {
-    // Not 1 to 1,024 instructions, or an address that is none of theirs.
-    Malformed,
-    // The first rule that it breaks, and the instruction.
-    Breaks(LoadingCode, u16),
-    // It keeps the rules; the step bound, if there is one.
-    Keeps(Option<u32>),
-}
+// The step bound, if there is one, of a text that keeps the rules.
+pub type Judgment = Result<Option<u32>, TextError>;
 
 pub fn judge_text(text: &[Control]) -> Judgment
     ensures value { result ≡ judgment text.now }
     ensures says { Says text.now result }
     ensures trusted { Trusted text.now result }
 {
-    if !is_formed(text) {
-        return Judgment::Malformed;
-    }
-    match first_broken(text) {
-        Some((code, number)) => Judgment::Breaks(code, number),
-        None => Judgment::Keeps(step_bound(text)),
-    }
+    Text::try_from(text)?.judge()
 }
 
-fn is_formed(text: &[Control]) -> bool
-    ensures { result ≡ formed text.now }
-{
-    let count = text.len();
-    if count < 1 || count > MOST_INSTRUCTIONS {
-        return false;
-    }
-    for i in 0..count {
-        if address_of(text[i]) as usize >= count {
-            return false;
+impl Text<'_> {
+    fn judge(self) -> Judgment
+        ensures { result ≡ told (first_broken self.entry.kinds.now (length self.entry.kinds.now)) (bound self.entry.kinds.now) }
+    {
+        match self.first_broken() {
+            Some((code, number)) => Err(TextError::Breaks(code, number)),
+            None => Ok(self.step_bound()),
         }
     }
-    true
 }

@@ -2,9 +2,12 @@
 #![tactic(auto)]
 
 mod check;
+mod error;
 mod judge;
-mod measure;
+mod places;
 mod scan;
+mod text;
 mod weigh;
 
+pub use error::TextError;
 pub use judge::{Judgment, judge_text};

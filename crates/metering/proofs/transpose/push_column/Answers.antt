@@ -1,21 +1,23 @@
-use Rattle.std.proofs.Common.{◌+◌, ◌*◌, length, get_or, rules}
-use Rattle.metering.proofs.Turning.{row_inside, column_more}
+use Rattle.std.proofs.Common.{◌∷◌, [], ◌++◌, sym, ap, ◌∙◌, append_assoc, arith, rules}
+use Rattle.std.specs.Slice.Iter.{chunks_exact_rest}
+use Rattle.metering.specs.Transposes.{column_bytes}
+use Rattle.metering.proofs.Turning.{column_first, column_none}
 use Rattle.metering.proofs.transpose.push_column.Goals as goal
-
-pub overflow_mul-row : goal.overflow_mul-row
-overflow_mul-row c =
-    let inside = row_inside (length c.args.rows.now) c.args.width c.loop-row.row c.args.offset c.requires c.loop-row-test.true in
-    search rules
-
-pub overflow_add-row : goal.overflow_add-row
-overflow_add-row c =
-    let inside = row_inside (length c.args.rows.now) c.args.width c.loop-row.row c.args.offset c.requires c.loop-row-test.true in
-    search rules
-
-pub bounds-rows-row : goal.bounds-rows-row
-bounds-rows-row c = row_inside (length c.args.rows.now) c.args.width c.loop-row.row c.args.offset c.requires c.loop-row-test.true
 
 pub loop-row-preserved : goal.loop-row-preserved
 loop-row-preserved c =
-    column_more (λ k. get_or c.args.rows.now (k * c.args.width + c.args.offset) 0) _ _ _ c.loop-row.row c.loop-row.invariant
-    c.in_ok-push.ensures.items
+    let steps = c.in-Some.ensures.steps in
+    let before = c.loop-row.out.items in
+    let later = column_bytes (chunks_exact_rest c.next.new.self) c.args.width c.args.offset in
+    let first =
+    column_first (chunks_exact_rest c.loop-row.row-iterator) c.in-Some.row.now (chunks_exact_rest c.next.new.self) c.args.width c.args.offset c.requires
+    steps.1.0 (steps.1.1 ∙ c.loop-row.invariant.1) in (
+      ap (λ xs. xs ++ later) c.in_ok-push.ensures.items ∙ (append_assoc before (_ ∷ []) later ∙ (ap (λ xs. before ++ xs) (sym first) ∙ c.loop-row.invariant.0)),
+      steps.0 ∙ c.loop-row.invariant.1,
+    )
+
+pub returns : goal.returns
+returns c =
+    let steps = c.in-None.ensures.steps in
+    let none = column_none (chunks_exact_rest c.loop-row.row-iterator) c.args.width c.args.offset (omega arith) in
+    search rules

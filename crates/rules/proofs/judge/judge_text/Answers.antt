@@ -1,24 +1,15 @@
-use Rattle.std.proofs.Common.{None, sym, ap, ◌∙◌}
-use Rattle.rules.specs.declared.judge.Judgment.TheVariants.{Keeps}
-use Rattle.rules.proofs.Judging.{lawful_from, judged_as, trusted_by}
+use Rattle.std.proofs.Common.{sym, subst}
+use Rattle.rules.specs.Judgments.{Says, Trusted}
+use Rattle.rules.proofs.Judging.{says_told, trusted_told}
 use Rattle.rules.proofs.judge.judge_text.Goals as goal
 
-pub first_broken-requires : goal.first_broken-requires
-first_broken-requires c =
-    let l = lawful_from c.args.text.now (sym c.if-not-is_formed.ensures) in
-    record { few = l.few; inside = l.inside }
+pub returns-clause-says : goal.returns-clause-says
+returns-clause-says c =
+    let formed = c.in_ok-try_from.field-0 in
+    subst (λ text. Says text c.judge.result) c.in_ok-try_from.ensures.1 (subst (Says formed.kinds.now) (sym c.judge.ensures) (says_told formed.kinds.now))
 
-pub step_bound-requires : goal.step_bound-requires
-step_bound-requires c =
-    let l = lawful_from c.args.text.now (sym c.if-not-is_formed.ensures) in
-    record { some = l.some; few = l.few; inside = l.inside }
-
-pub returns-in-None : goal.returns-in-None
-returns-in-None c =
-    let text = c.args.text.now in
-    let formed = sym c.if-not-is_formed.ensures in
-    record {
-      value = ap Keeps c.step_bound.ensures ∙ judged_as text None formed c.in-None.ensures.value;
-      says = (c.in-None.ensures.found, c.step_bound.ensures, c.in-None.ensures.words, c.in-None.ensures.weights);
-      trusted = trusted_by text c.step_bound.result formed (sym c.in-None.ensures.value) c.step_bound.ensures;
-    }
+pub returns-clause-trusted : goal.returns-clause-trusted
+returns-clause-trusted c =
+    let formed = c.in_ok-try_from.field-0 in
+    subst (λ text. Trusted text c.judge.result) c.in_ok-try_from.ensures.1
+    (subst (Trusted formed.kinds.now) (sym c.judge.ensures) (trusted_told formed.kinds.now formed.some formed.inside))
