@@ -1,11 +1,14 @@
 // The loss program: its listing, the verdict on it, and what loading says of four bad variants.
 use crate::listing::Line;
-use loading::{Program, Verdict, judge_image};
+use loading::{Program, Verdict, WIDTH, judge_image};
+use metering::Archive;
 use records::Layout;
 
 // The site's records stand under base 0; the other bases are absent.
 const LAYOUTS: [Layout; 8] = [
-    Layout { length: 100 },
+    Layout {
+        length: Archive::RECORD,
+    },
     Layout::ABSENT,
     Layout::ABSENT,
     Layout::ABSENT,
@@ -14,9 +17,6 @@ const LAYOUTS: [Layout; 8] = [
     Layout::ABSENT,
     Layout::ABSENT,
 ];
-
-// The bytes of an instruction.
-const WIDTH: usize = 5;
 
 pub fn show_loss(rt: &HostRuntime, image: &[u8]) -> anyhow::Result<()> {
     let mut program = Program::new();

@@ -56,7 +56,7 @@ fn read_step<S: Source>(heap: Global, source: &S, row: u32) -> Result<Step, Allo
     })
 }
 
-// A page's refusal in words.
+// A page's refusal in this program's words; the error's own speak of a placement, which nobody sees here.
 fn told(answer: Result<(), Refusal>) -> anyhow::Result<()> {
     answer.map_err(|_| anyhow!("the archive does not fit its page"))
 }

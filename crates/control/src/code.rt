@@ -1,4 +1,6 @@
 // Why loading refuses a program.
+use std::fmt;
+
 #[derive(Clone, Copy, Debug, PartialEq, Eq)]
 pub enum LoadingCode {
     UnknownOpcode = 0x01,
@@ -23,5 +25,17 @@ impl From<LoadingCode> for u8 {
 
     fn from(code: LoadingCode) -> u8 {
         code as u8
+    }
+}
+
+// A refusal is written as that number, in two hexadecimal digits.
+impl fmt::Display for LoadingCode {
+    ghost use Rattle.std.specs.Prelude.{Some};
+    ghost use Rattle.control.specs.Codes.{number_text};
+
+    ghost output = { λ code. Some (number_text code) };
+
+    fn fmt<W: fmt::Write>(&self, f: &mut fmt::Formatter<W>) -> fmt::Result {
+        write!(f, "{:02x}", u8::from(*self))
     }
 }

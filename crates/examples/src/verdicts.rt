@@ -12,7 +12,7 @@ const ABSENT: [Layout; 8] = [Layout::ABSENT; 8];
 // A call of 2, END, a return.
 const CALL_AND_RETURN: &[u8] = b"\x3a\x02\0\0\0\xff\0\0\0\0\x3b\0\0\0\0";
 
-// Pushes of event bit 0, and END.
+// Pushes of event bit 0, and END. Both images are written out, so that a reader sees the bytes that get the answer.
 const EIGHT_PUSHES: &[u8] = b"\
     \x0b\0\0\0\0\x0b\0\0\0\0\x0b\0\0\0\0\x0b\0\0\0\0\
     \x0b\0\0\0\0\x0b\0\0\0\0\x0b\0\0\0\0\x0b\0\0\0\0\

@@ -1,5 +1,5 @@
 -- A decoded instruction, and the bytes that it stands for.
-use Rattle.std.proofs.Common.{◌≡◌, ℕ, true, false, leb, List, Ok, Err, Result, ap, ◌∙◌, subst, ⊎_elim, arith}
+use Rattle.std.proofs.Common.{◌≡◌, ℕ, true, false, leb, List, Ok, Err, Result, sym, ap, ◌∙◌, subst, ⊎_elim, arith}
 use Rattle.std.proofs.lemmas.Bool.{cases_Bool, both_ways, and_parts, and_from, le-leb, leb-true, or_left}
 use Rattle.records.specs.declared.layout.Layout.{Layout}
 use Rattle.loading.specs.declared.instruction.Instruction.{Instruction}
@@ -7,6 +7,7 @@ use Rattle.std.specs.Result.{result_unwrap_or}
 use Rattle.opcodes.specs.declared.naming.UnknownOpcode.{UnknownOpcode}
 use Rattle.opcodes.specs.Named.{Decodes}
 use Rattle.opcodes.specs.declared.opcode.Opcode.{Opcode}
+use Rattle.opcodes.specs.declared.opcode.Opcode.TheVariants.{Nop}
 use Rattle.opcodes.specs.Families.{known, between, takes_address}
 use Rattle.opcodes.specs.Numbers.{number}
 use Rattle.loading.specs.Images.{opcode_at, operand_bytes}
@@ -25,7 +26,7 @@ named_or (Ok p) x other h t = h.1
 named_or (Err e) x other h t = absurd (both_ways _ h.0 t)
 
 -- an unknown opcode takes no address
-pub unaddressed : (x : ℕ) → known x ≡ false → takes_address x ≡ false
+unaddressed : (x : ℕ) → known x ≡ false → takes_address x ≡ false
 unaddressed x h =
     ⊎_elim
     (λ t.
@@ -35,3 +36,8 @@ unaddressed x h =
     absurd (both_ways _ h (or_left _ _ (or_left _ _ (or_left _ _ low)))))
     (λ f. f)
     (cases_Bool (takes_address x))
+
+-- so what stands in for it, a NOP, takes none either
+pub addressed_or : (r : Result Opcode UnknownOpcode) (x : ℕ) → Decodes x r → takes_address (number (result_unwrap_or r Nop)) ≡ takes_address x
+addressed_or (Ok p) x h = ap takes_address h.1
+addressed_or (Err e) x h = sym (unaddressed x h.0)

@@ -1,6 +1,7 @@
 -- From instructions that keep their own rules to the verdict on the image.
-use Rattle.std.proofs.Common.{◌≡◌, ℕ, zero, suc, ◌+◌, ◌%◌, ◌<◌, ◌≤◌, Bool, true, false, cond, not, ◌&&◌, eqb, ltb, leb, List, map, length, get_or, Some, None, Ok, Err, Option, Result, sym, refl, ap, ◌∙◌, subst, inl, inr, arith}
+use Rattle.std.proofs.Common.{MatchResult, IsErrAnd, ◌≡◌, ℕ, zero, suc, ◌+◌, ◌%◌, ◌<◌, ◌≤◌, Bool, true, false, cond, not, ◌&&◌, eqb, ltb, leb, List, map, length, get_or, Some, None, Ok, Err, Option, Result, sym, refl, ap, ◌∙◌, subst, inl, inr, arith}
 use Rattle.std.specs.List.{range_with_len}
+use Rattle.std.proofs.lemmas.Result.{err_from_is_err_and}
 use Rattle.std.proofs.lemmas.List.FromFn.{length-map-range_with_len, fill_by_all}
 use Rattle.std.proofs.lemmas.Bool.{and_parts, and_from, leb-true, le-leb, ltb-true, lt-ltb, eqb-true, not-false, cond_both, both_ways}
 use Rattle.records.specs.declared.layout.Layout.{Layout}
@@ -46,12 +47,12 @@ sized image h =
 
 -- what the answer on an instruction says of it
 answered_ok : (o : Option LoadingCode) (c k : Control) → Ok k ≡ answered o c → (o ≡ None) × (k ≡ c)
-answered_ok (Some code) c k h = absurd (let z : ◌≡◌ {A = ℕ} 0 1 = cc in omega arith)
+answered_ok (Some code) c k h = absurd cc
 answered_ok None c k h = (refl, cc)
 
 answered_err : (o : Option LoadingCode) (c : Control) (e : LoadingCode) → Err e ≡ answered o c → o ≡ Some e
 answered_err (Some code) c e h = cc
-answered_err None c e h = absurd (let z : ◌≡◌ {A = ℕ} 0 1 = cc in omega arith)
+answered_err None c e h = absurd cc
 
 module _ (layouts : List Layout) (image : List ℕ) (n x : ℕ) (bytes : List ℕ) (ex : x ≡ opcode_at image n) (eb : bytes ≡ operand_bytes image n) where
   at_image : alone layouts (count image) x bytes ≡ alone layouts (count image) (opcode_at image n) (operand_bytes image n)
@@ -185,12 +186,7 @@ module _ (layouts : List Layout) (image : List ℕ) (s : Sized image) (own : fir
   trusted_image (Err (Breaks code n)) h = tt
   trusted_image (Ok limit) h = ((λ cs. stands_well (run (text image) (Goes start) cs) (h.0 cs)), h.1)
 
--- the two verdicts that come early
-pub bad_length : (layouts : List Layout) (image : List ℕ) → lawful_length image ≡ false → Err BadLength ≡ verdict layouts image
-unfolding verdict
-bad_length layouts image h =
-    sym (ap (λ b. cond b (first (first_found (broken_alone layouts image) (count image)) (second (first_broken (text image) (count image)) (bound (text image)))) (Err BadLength)) h)
-
+-- the verdict on an image that breaks a rule of one instruction alone
 refused_alone : (layouts : List Layout) (image : List ℕ) (code : LoadingCode) (n : ℕ) → lawful_length image ≡ true
     → first_found (broken_alone layouts image) (count image) ≡ Some (code, n) → Err (errors.TheVariants.Breaks code n) ≡ verdict layouts image
 unfolding verdict
@@ -234,3 +230,9 @@ judged_as layouts image kinds j lawful own e value says trusted =
       says = says_image layouts image s own lawful j (subst (λ t. judging.Says t j) e says);
       trusted = trusted_image layouts image s own j (subst (λ t. Trusted t j) e trusted);
     }
+
+-- where `map_err` gives an error, what it was made of
+pub mapped_err : {X E F : Type 0} (r : Result X E) (s : Result X F) (f : F) (Q : E → F → Type 0)
+    → MatchResult r (λ x. s ≡ Ok x) (λ e. IsErrAnd s (Q e)) → s ≡ Err f → (e : E) × (r ≡ Err e) × Q e f
+mapped_err (Ok x) s f Q h e = absurd cc
+mapped_err (Err d) s f Q h e = let p = err_from_is_err_and s h in (d, refl, subst (Q d) (let same : p.0 ≡ f = cc in same) p.2)

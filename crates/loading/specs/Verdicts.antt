@@ -45,11 +45,12 @@ verdict layouts image =
     (first (first_found (broken_alone layouts image) (count image)) (second (first_broken (text image) (count image)) (bound (text image))))
     (Err BadLength)
 
--- a judgment on the control text as a verdict
+-- why a text is refused, as why its image is
 abbrev pub from_text_error : TextError → LoadError
 from_text_error Malformed = BadLength
 from_text_error (texts.TheVariants.Breaks code n) = Breaks code n
 
+-- a judgment on the control text as a verdict
 abbrev pub from_judgment : Result (Option ℕ) TextError → Verdict
 from_judgment (Ok limit) = Ok limit
 from_judgment (Err e) = Err (from_text_error e)

@@ -11,12 +11,13 @@ use records::Layout;
 
 #[derive(Clone, Copy)]
 pub struct Encoded<'a> {
+    // The image's byte, which may be no opcode's number.
     pub opcode: u8,
     pub operand: &'a [u8],
 }
 
 impl<'a> Encoded<'a> {
-    // The operand bytes are a part of the image.
+    // The operand bytes are handed on as a part of the image, as this project's decoder of operands takes them.
     pub fn of(bytes: &'a [u8]) -> Encoded<'a>
         requires { length bytes.now ≡ 5 }
         ensures opcode { result.opcode ≡ slice_index bytes.now 0 }

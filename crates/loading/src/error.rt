@@ -1,17 +1,20 @@
 // Why an image is refused.
 use control::LoadingCode;
 use rules::TextError;
-use std::error::Error;
-use std::fmt;
+use thiserror::Error;
 
-#[derive(Clone, Copy, PartialEq, Eq, Debug)]
+// A type of its own beside `TextError`: its first case says another thing, and callers of loading see no other error.
+#[derive(Clone, Copy, Debug, PartialEq, Eq, Error)]
 pub enum LoadError {
     // Empty, longer than 5,120 bytes, or no whole number of instructions.
+    #[error("refused for its length")]
     BadLength,
     // The first rule that is broken, and the instruction that breaks it.
+    #[error("refused with {0} at instruction {1}")]
     Breaks(LoadingCode, u16),
 }
 
+// By hand, since clauses say which error a `?` makes.
 impl From<TextError> for LoadError {
     ghost use Rattle.std.specs.Prelude.{◌≡◌};
     ghost use Rattle.loading.specs.Verdicts.{from_text_error};
@@ -25,20 +28,3 @@ impl From<TextError> for LoadError {
         }
     }
 }
-
-impl fmt::Display for LoadError {
-    fn fmt<W: fmt::Write>(&self, f: &mut fmt::Formatter<W>) -> fmt::Result {
-        match self {
-            LoadError::BadLength => write!(f, "refused for its length"),
-            LoadError::Breaks(code, number) => {
-                write!(
-                    f,
-                    "refused with {:02x} at instruction {number}",
-                    u8::from(*code)
-                )
-            }
-        }
-    }
-}
-
-impl Error for LoadError {}

@@ -29,7 +29,7 @@ pub fn control_of(opcode: Opcode, target: u16) -> Control
     }
 }
 
-// The jumps and the call.
+// The jumps and the call. A list beside that of `control_of`, since decoding asks it where there is no control.
 pub fn takes_address(opcode: Opcode) -> bool
     ensures { result ≡ takes_address (number opcode) }
 {

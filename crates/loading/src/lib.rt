@@ -10,6 +10,7 @@ mod program;
 mod verdict;
 
 pub use error::LoadError;
+pub use image::WIDTH;
 pub use instruction::Instruction;
 pub use program::Program;
 pub use verdict::{Verdict, judge_image};

@@ -16,7 +16,7 @@ use rules::judge_text;
 // The program can be run, and the most steps that a cycle takes, where that is known; or why it is refused.
 pub type Verdict = Result<Option<u32>, LoadError>;
 
-// Image and layouts stay two arguments: no caller holds them together, and a struct of them would only be taken apart.
+// Image and layouts stay two arguments: nobody keeps them together, and a struct of them would only be taken apart.
 #[tactic(auto, using(crate::proofs::Worked::examples), unfolding(crate::specs::Verdicts::verdict))]
 pub fn judge_image(image: &[u8], layouts: &[Layout; 8]) -> Verdict
     ensures value { result ≡ verdict layouts.now image.now }
@@ -28,7 +28,8 @@ pub fn judge_image(image: &[u8], layouts: &[Layout; 8]) -> Verdict
 }
 
 impl Image<'_> {
-    // The instructions by themselves, in the order of their numbers, and then the text that they make.
+    // The instructions by themselves, in the order of their numbers, and then the text that they make. The clauses are those of the two public
+    // calls, which keep theirs.
     pub fn judge(self, layouts: &[Layout; 8]) -> Verdict
         ensures value { result ≡ verdict layouts.now self.entry.bytes.now }
         ensures says { Says layouts.now self.entry.bytes.now result }
@@ -48,10 +49,11 @@ impl Image<'_> {
         let count = self.count();
         let mut kinds = ArrayVec::new();
         for bytes in self.bytes.chunks_exact(WIDTH) {
-            match Encoded::of(bytes).check(layouts, count) {
-                Ok(kind) => kinds.push(kind),
-                Err(code) => return Err(LoadError::Breaks(code, kinds.len() as u16)),
-            }
+            let number = kinds.len() as u16;
+            let kind = Encoded::of(bytes)
+                .check(layouts, count)
+                .map_err(|code| LoadError::Breaks(code, number))?;
+            kinds.push(kind);
         }
         Ok(kinds)
     }

@@ -1,19 +1,15 @@
 // How long loading takes: judges and decodes the longest images. With a number as its argument, it repeats that often and prints the time.
 #![tactic(auto)]
 
-use loading::Program;
+use control::MOST_INSTRUCTIONS;
+use loading::{Program, WIDTH};
 use records::Layout;
 use std::env;
 use std::time::Instant;
 
 const LAYOUTS: [Layout; 8] = [Layout { length: 512 }; 8];
 
-const COUNT: usize = 1024;
-
-// The bytes of an instruction.
-const WIDTH: usize = 5;
-
-const BYTES: usize = COUNT * WIDTH;
+const BYTES: usize = MOST_INSTRUCTIONS * WIDTH;
 
 fn main(rt: HostRuntime) -> anyhow::Result<()> {
     run(&rt)
@@ -58,8 +54,10 @@ fn measure(rt: &HostRuntime, what: &str, image: &[u8], rounds: u32) -> anyhow::R
     let mut program = Program::new();
     let verdict = program.load(image, &LAYOUTS);
     match verdict {
-        Ok(Some(bound)) => println!(rt; "{COUNT} {what}: accepted, at most {bound} steps")?,
-        _ => println!(rt; "{COUNT} {what}: no bound")?,
+        Ok(Some(bound)) => println!(rt;
+            "{MOST_INSTRUCTIONS} {what}: accepted, at most {bound} steps"
+        )?,
+        _ => println!(rt; "{MOST_INSTRUCTIONS} {what}: no bound")?,
     }
     if rounds > 0 {
         let start = Instant::now(rt)?;

@@ -1,17 +1,17 @@
 // The first rule that a program breaks, and where.
 use crate::images::{
     CALL, END, JMP, JR, L, NO_LAYOUTS, NOP, POP, PUSH, RET, STRANGE, UNKNOWN, append,
-    check_verdict, refused,
+    check_refusals, refused,
 };
 use control::LoadingCode;
-use loading::{LoadError, judge_image};
+use loading::judge_image;
 use std::test::Fail;
 
 // The rules of each instruction by itself come first, in the order of the instructions, whatever the other rules say of those
 // before.
 #[test]
 fn first_pass(rt: HostRuntime) -> Result<(), Fail> {
-    let cases: [(&[(u8, u8)], LoadingCode, u16); 7] = [
+    let cases: &[(&[(u8, u8)], LoadingCode, u16)] = &[
         (
             &[(NOP, 0), (UNKNOWN, 0), (L, STRANGE), (JMP, 4)],
             LoadingCode::UnknownOpcode,
@@ -40,16 +40,13 @@ fn first_pass(rt: HostRuntime) -> Result<(), Fail> {
         (&[(POP, 0), (JR, 2)], LoadingCode::BadAddress, 1),
         (&[(CALL, 2), (END, 0)], LoadingCode::BadAddress, 0),
     ];
-    for (program, code, number) in cases {
-        check_verdict(&rt, rt.alloc(), program, refused(code, number))?;
-    }
-    Ok(())
+    check_refusals(&rt, rt.alloc(), cases)
 }
 
 // Each code with other faults at later instructions. 05 is among the ranks.
 #[test]
 fn in_company(rt: HostRuntime) -> Result<(), Fail> {
-    let cases: [(&[(u8, u8)], LoadingCode, u16); 7] = [
+    let cases: &[(&[(u8, u8)], LoadingCode, u16)] = &[
         (
             &[
                 (PUSH, 0),
@@ -86,16 +83,13 @@ fn in_company(rt: HostRuntime) -> Result<(), Fail> {
         (&[(CALL, 0), (RET, 0)], LoadingCode::CallsBack, 0),
         (&[(RET, 0), (POP, 0)], LoadingCode::ReturnOutside, 0),
     ];
-    for (program, code, number) in cases {
-        check_verdict(&rt, rt.alloc(), program, refused(code, number))?;
-    }
-    Ok(())
+    check_refusals(&rt, rt.alloc(), cases)
 }
 
 // Of two faults of one instruction the earlier in the order of the rules is told.
 #[test]
 fn two_at_once(rt: HostRuntime) -> Result<(), Fail> {
-    let cases: [(&[(u8, u8)], LoadingCode, u16); 9] = [
+    let cases: &[(&[(u8, u8)], LoadingCode, u16)] = &[
         // 03 and 13
         (&[(PUSH, 0); 9], LoadingCode::PushAtEight, 8),
         // 04 and 13
@@ -126,16 +120,13 @@ fn two_at_once(rt: HostRuntime) -> Result<(), Fail> {
         (&[(NOP, 0), (CALL, 0)], LoadingCode::SectionRunsOn, 1),
         (&[(CALL, 0)], LoadingCode::SectionRunsOn, 0),
     ];
-    for (program, code, number) in cases {
-        check_verdict(&rt, rt.alloc(), program, refused(code, number))?;
-    }
-    Ok(())
+    check_refusals(&rt, rt.alloc(), cases)
 }
 
 // The depth goes on as a plain number below 0 and above 8.
 #[test]
 fn depths_out_of_range(rt: HostRuntime) -> Result<(), Fail> {
-    let cases: [(&[(u8, u8)], LoadingCode, u16); 6] = [
+    let cases: &[(&[(u8, u8)], LoadingCode, u16)] = &[
         (
             &[(JR, 3), (POP, 0), (PUSH, 0), (END, 0)],
             LoadingCode::PopAtZero,
@@ -175,10 +166,7 @@ fn depths_out_of_range(rt: HostRuntime) -> Result<(), Fail> {
             8,
         ),
     ];
-    for (program, code, number) in cases {
-        check_verdict(&rt, rt.alloc(), program, refused(code, number))?;
-    }
-    Ok(())
+    check_refusals(&rt, rt.alloc(), cases)
 }
 
 // A jump over nine pushes and nine pops, and into the midst of them.
@@ -197,7 +185,7 @@ fn nine_deep(rt: HostRuntime) -> Result<(), Fail> {
         append(&mut image, 1, END, 0)?;
         assert_eq!(rt;
             judge_image(&image, &NO_LAYOUTS),
-            Err(LoadError::Breaks(code, number)),
+            refused(code, number),
             "to {target}"
         );
     }
@@ -207,7 +195,7 @@ fn nine_deep(rt: HostRuntime) -> Result<(), Fail> {
 // Every called address begins a section, be the call backward or never reached.
 #[test]
 fn sections(rt: HostRuntime) -> Result<(), Fail> {
-    let cases: [(&[(u8, u8)], LoadingCode, u16); 6] = [
+    let cases: &[(&[(u8, u8)], LoadingCode, u16)] = &[
         (
             &[(NOP, 0), (NOP, 0), (CALL, 1), (END, 0)],
             LoadingCode::SectionRunsOn,
@@ -235,8 +223,5 @@ fn sections(rt: HostRuntime) -> Result<(), Fail> {
             3,
         ),
     ];
-    for (program, code, number) in cases {
-        check_verdict(&rt, rt.alloc(), program, refused(code, number))?;
-    }
-    Ok(())
+    check_refusals(&rt, rt.alloc(), cases)
 }

@@ -1,6 +1,7 @@
 // Which operand bytes fit an opcode and the layouts.
+use crate::images::refused;
 use control::LoadingCode;
-use loading::{LoadError, judge_image};
+use loading::judge_image;
 use records::Layout;
 use std::process::Abort;
 
@@ -16,12 +17,12 @@ const LAYOUTS: [Layout; 8] = [
     Layout::ABSENT,
 ];
 
-// An opcode and its operand bytes.
+// An opcode and its operand bytes, as one number, so that a case is one line of hexadecimal.
 fn check_fitting(rt: &impl Abort, instruction: u64, expected: bool) {
     let [_, _, _, opcode, p1, p2, p3, p4] = u64::to_be_bytes(instruction);
     let image = [opcode, p1, p2, p3, p4, 0xff, 0, 0, 0, 0];
     let verdict = judge_image(&image, &LAYOUTS);
-    let fits = verdict != Err(LoadError::Breaks(LoadingCode::BadOperand, 0));
+    let fits = verdict != refused(LoadingCode::BadOperand, 0);
     assert_eq!(rt; fits, expected, "{instruction:010X}");
 }
 

@@ -6,6 +6,7 @@ use std::alloc::{AllocError, Global};
 use std::process::Abort;
 use std::test::Fail;
 
+// Opcodes here are numbers, and programs pairs of numbers: they are an image's own bytes, and unknown ones are among them.
 pub const NOP: u8 = 0x00;
 
 pub const L: u8 = 0x01;
@@ -68,5 +69,17 @@ pub fn check_verdict(
 ) -> Result<(), Fail> {
     let image = image_of(heap, program)?;
     assert_eq!(rt; judge_image(&image, &NO_LAYOUTS), expected);
+    Ok(())
+}
+
+// Each program breaks this rule first, at this instruction.
+pub fn check_refusals(
+    rt: &impl Abort,
+    heap: Global,
+    cases: &[(&[(u8, u8)], LoadingCode, u16)],
+) -> Result<(), Fail> {
+    for &(program, code, number) in cases {
+        check_verdict(rt, heap, program, refused(code, number))?;
+    }
     Ok(())
 }

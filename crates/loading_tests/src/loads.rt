@@ -1,10 +1,11 @@
 // Programs that take one image after another.
-use crate::images::{CALL, END, JMP, NO_LAYOUTS, NOP, PUSH, RET, image_of};
+use crate::images::{CALL, END, JMP, NO_LAYOUTS, NOP, PUSH, RET, image_of, refused};
 use control::LoadingCode;
 use loading::{LoadError, Program};
 use std::process::Abort;
 use std::test::Fail;
 
+// By number, as programs here are.
 fn check_program(rt: &impl Abort, program: &Program, opcodes: &[u8], bound: Option<u32>) {
     assert_eq!(rt; usize::from(program.count()), opcodes.len());
     assert_eq!(rt; program.instructions().len(), opcodes.len());
@@ -35,7 +36,7 @@ fn one_after_another(rt: HostRuntime) -> Result<(), Fail> {
     let running_on = image_of(heap, &[(PUSH, 0), (NOP, 0)])?;
     assert_eq!(rt;
         program.load(&running_on, &NO_LAYOUTS),
-        Err(LoadError::Breaks(LoadingCode::SectionRunsOn, 1))
+        refused(LoadingCode::SectionRunsOn, 1)
     );
     check_program(&rt, &program, &[CALL, END, RET], Some(3));
     assert_eq!(rt;

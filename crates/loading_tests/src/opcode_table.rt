@@ -1,6 +1,7 @@
 // Every opcode with every first operand byte.
+use crate::images::refused;
 use control::LoadingCode;
-use loading::{LoadError, Verdict, judge_image};
+use loading::{Verdict, judge_image};
 use opcodes::{admits, is_known, takes_operand};
 use records::Layout;
 
@@ -35,23 +36,11 @@ fn family_of(opcode: u8) -> Family {
 // Whether some operand of the family begins in the same eight first bytes.
 fn column_admitted(family: Family, first: u8) -> bool {
     match family {
-        Family::Source => match first {
-            0x00..=0x5f | 0xc0..=0xcf => true,
-            _ => false,
-        },
+        Family::Source => matches!(first, 0x00..=0x5f | 0xc0..=0xcf),
         Family::Destination => first < 0x40,
-        Family::Whole => match first {
-            0x28..=0x2f | 0x40..=0x5f | 0xc0..=0xcf => true,
-            _ => false,
-        },
-        Family::Counter => match first {
-            0x30..=0x37 => true,
-            _ => false,
-        },
-        Family::Record => match first {
-            0xd0..=0xdf => true,
-            _ => false,
-        },
+        Family::Whole => matches!(first, 0x28..=0x2f | 0x40..=0x5f | 0xc0..=0xcf),
+        Family::Counter => matches!(first, 0x30..=0x37),
+        Family::Record => matches!(first, 0xd0..=0xdf),
         Family::Address | Family::Nothing => true,
         Family::Unknown => false,
     }
@@ -87,14 +76,14 @@ fn fits(family: Family, first: u8) -> bool {
     }
 }
 
-// The verdict on an instruction with this opcode and first operand byte, and the end after it.
+// The verdict on an instruction with this opcode and first operand byte, and the end after it. By number, like `family_of`.
 fn expected(opcode: u8, first: u8) -> Verdict {
     match family_of(opcode) {
-        Family::Unknown => Err(LoadError::Breaks(LoadingCode::UnknownOpcode, 0)),
+        Family::Unknown => refused(LoadingCode::UnknownOpcode, 0),
         Family::Address => expected_at_address(opcode, first),
         Family::Nothing => match opcode {
-            0x0d..=0x12 => Err(LoadError::Breaks(LoadingCode::PopAtZero, 0)),
-            0x3b => Err(LoadError::Breaks(LoadingCode::ReturnOutside, 0)),
+            0x0d..=0x12 => refused(LoadingCode::PopAtZero, 0),
+            0x3b => refused(LoadingCode::ReturnOutside, 0),
             0xff => Ok(Some(1)),
             _ => Ok(Some(2)),
         },
@@ -102,22 +91,22 @@ fn expected(opcode: u8, first: u8) -> Verdict {
             if fits(known, first) {
                 Ok(Some(2))
             } else {
-                Err(LoadError::Breaks(LoadingCode::BadOperand, 0))
+                refused(LoadingCode::BadOperand, 0)
             }
         }
     }
 }
 
-// Address 0 is the instruction's own, 1 the end's, and there is no other.
+// Address 0 is the instruction's own, 1 the end's, and there is no other. By number, like `family_of`.
 fn expected_at_address(opcode: u8, address: u8) -> Verdict {
     if address >= 2 {
-        return Err(LoadError::Breaks(LoadingCode::BadAddress, 0));
+        return refused(LoadingCode::BadAddress, 0);
     }
     if opcode == 0x3a {
         if address == 0 {
-            return Err(LoadError::Breaks(LoadingCode::CallsBack, 0));
+            return refused(LoadingCode::CallsBack, 0);
         }
-        return Err(LoadError::Breaks(LoadingCode::SectionRunsOn, 0));
+        return refused(LoadingCode::SectionRunsOn, 0);
     }
     if address == 0 { Ok(None) } else { Ok(Some(2)) }
 }
@@ -137,7 +126,7 @@ fn before_the_end(rt: HostRuntime) {
     }
 }
 
-// An operand that fits, or the instruction's own address.
+// An operand that fits, or the instruction's own address. By number, like `family_of`.
 fn fitting_byte(opcode: u8) -> u8 {
     match family_of(opcode) {
         Family::Whole => 0x28,
@@ -148,15 +137,16 @@ fn fitting_byte(opcode: u8) -> u8 {
     }
 }
 
+// The verdict on the end, and an instruction of this opcode and its `fitting_byte` after it. By number, like `family_of`.
 fn expected_as_last(opcode: u8) -> Verdict {
     match opcode {
-        0x0d..=0x12 => Err(LoadError::Breaks(LoadingCode::PopAtZero, 1)),
+        0x0d..=0x12 => refused(LoadingCode::PopAtZero, 1),
         0x39 => Ok(None),
-        0x3b => Err(LoadError::Breaks(LoadingCode::ReturnOutside, 1)),
+        0x3b => refused(LoadingCode::ReturnOutside, 1),
         0xff => Ok(Some(1)),
         _ => match family_of(opcode) {
-            Family::Unknown => Err(LoadError::Breaks(LoadingCode::UnknownOpcode, 1)),
-            _ => Err(LoadError::Breaks(LoadingCode::SectionRunsOn, 1)),
+            Family::Unknown => refused(LoadingCode::UnknownOpcode, 1),
+            _ => refused(LoadingCode::SectionRunsOn, 1),
         },
     }
 }

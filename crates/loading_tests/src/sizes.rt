@@ -1,5 +1,5 @@
 // Images of every length, and addresses up to the last.
-use crate::images::{CALL, END, JMP, NO_LAYOUTS, NOP, RET, append};
+use crate::images::{CALL, END, JMP, NO_LAYOUTS, NOP, RET, append, refused};
 use control::LoadingCode;
 use loading::{LoadError, judge_image};
 use std::test::Fail;
@@ -36,38 +36,13 @@ fn whole_instructions_only(rt: HostRuntime) -> Result<(), Fail> {
 fn longest_programs(rt: HostRuntime) -> Result<(), Fail> {
     for (first, address, last, expected) in [
         (NOP, 0, END, Ok(Some(1024))),
-        (
-            NOP,
-            0,
-            NOP,
-            Err(LoadError::Breaks(LoadingCode::SectionRunsOn, 1023)),
-        ),
+        (NOP, 0, NOP, refused(LoadingCode::SectionRunsOn, 1023)),
         (JMP, 1023, END, Ok(Some(2))),
         (JMP, 256, END, Ok(Some(769))),
-        (
-            JMP,
-            1024,
-            END,
-            Err(LoadError::Breaks(LoadingCode::BadAddress, 0)),
-        ),
-        (
-            JMP,
-            65_535,
-            END,
-            Err(LoadError::Breaks(LoadingCode::BadAddress, 0)),
-        ),
-        (
-            CALL,
-            1023,
-            RET,
-            Err(LoadError::Breaks(LoadingCode::SectionRunsOn, 1022)),
-        ),
-        (
-            CALL,
-            1024,
-            RET,
-            Err(LoadError::Breaks(LoadingCode::BadAddress, 0)),
-        ),
+        (JMP, 1024, END, refused(LoadingCode::BadAddress, 0)),
+        (JMP, 65_535, END, refused(LoadingCode::BadAddress, 0)),
+        (CALL, 1023, RET, refused(LoadingCode::SectionRunsOn, 1022)),
+        (CALL, 1024, RET, refused(LoadingCode::BadAddress, 0)),
     ] {
         let mut image = Vec::new(rt.alloc());
         append(&mut image, 1, first, address)?;

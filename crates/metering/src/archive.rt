@@ -65,7 +65,7 @@ fn count(bytes: &[u8]) -> usize
     bytes.len() / Archive::RECORD as usize
 }
 
-// Adds the record of one line, unless that is passed over.
+// Adds the record of one line, unless that is passed over. Its number stays an argument, as in `push_line`.
 fn push_record_line(bytes: &mut Vec<u8>, line: &str, number: usize) -> Result<(), ArchiveFault>
     requires { IsWhole bytes.old.items }
     ensures answer { AsDefined (with_record_line number (records_in bytes.old.items) line.now) (λ _. records_in bytes.new.items) result }
@@ -80,7 +80,7 @@ fn push_record_line(bytes: &mut Vec<u8>, line: &str, number: usize) -> Result<()
     push_record(bytes, line, number)
 }
 
-// Adds the bytes of one line, which must be exactly one record.
+// Adds the bytes of one line, which must be exactly one record. Its number stays an argument, as in `push_line`.
 #[tactic(auto, using(crate::proofs::Cutting::no_word))]
 fn push_record(bytes: &mut Vec<u8>, line: &str, number: usize) -> Result<(), ArchiveFault>
     ensures answer { AsDefined (with_record number 100 bytes.old.items (words line.now)) (λ _. bytes.new.items) result }

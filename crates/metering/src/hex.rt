@@ -4,7 +4,7 @@ ghost use Rattle.metering.specs.Texts.{hex_digit, byte_of, with_byte, AsDefined}
 
 use crate::fault::ArchiveFault;
 
-// Adds the byte of one word, which stands in the line of that number.
+// Adds the byte of one word, which stands in the line of that number (an argument, as in `push_line`).
 pub(crate) fn push_byte(bytes: &mut Vec<u8>, word: &str, number: usize) -> Result<(), ArchiveFault>
     ensures answer { AsDefined (with_byte number bytes.old.items (byte_of word.now)) (λ _. bytes.new.items) result }
     ensures one { OnOk result (vec_len bytes.new ≡ vec_len bytes.old + 1) }

@@ -6,7 +6,8 @@ use crate::fault::ArchiveFault;
 use crate::hex::push_byte;
 use std::alloc::Global;
 
-// The bytes of a text that is no archive: any number of them in a line.
+// The bytes of a text that is no archive: any number of them in a line. Only the `for` over lines is that of `Archive::parse`, and a walk that
+// takes what a line does would need a clause on it.
 #[tactic(auto, using(crate::proofs::Cutting::no_line))]
 pub fn parse_bytes(heap: Global, text: &str) -> Result<Vec<u8>, ArchiveFault>
     ensures { AsDefined (bytes_of text.now) (λ v. v.items) result }
@@ -19,7 +20,7 @@ pub fn parse_bytes(heap: Global, text: &str) -> Result<Vec<u8>, ArchiveFault>
 }
 
 // Adds the bytes of one line, unless that is passed over.
-// A line and its number stay two arguments: of a struct that holds a reference, each clause would say `line.entry.text.now`.
+// A line and its number stay two arguments: the number is only handed on into a fault, and a struct would be taken apart in each loop.
 #[tactic(auto, using(crate::proofs::Cutting::no_word))]
 fn push_line(bytes: &mut Vec<u8>, line: &str, number: usize) -> Result<(), ArchiveFault>
     ensures { AsDefined (with_line number bytes.old.items line.now) (λ _. bytes.new.items) result }

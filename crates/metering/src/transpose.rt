@@ -1,5 +1,5 @@
 // The same table column after column, as a column page takes it. Bytes after the last whole row are left out.
-ghost use Rattle.std.specs.Prelude.{◌≡◌, ℕ, ◌*◌, ◌<◌, List, ◌++◌, length, IfOk, OnOk};
+ghost use Rattle.std.specs.Prelude.{◌≡◌, ◌<◌, ◌++◌, IfOk, OnOk};
 ghost use Rattle.metering.specs.Transposes.{Transposes, all_columns, column_bytes};
 
 use std::alloc::{AllocError, Global};

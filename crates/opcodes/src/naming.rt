@@ -2,10 +2,9 @@
 ghost use Rattle.opcodes.specs.Named.{Decodes, Named};
 
 use crate::opcode::Opcode;
-use std::error::Error;
-use std::fmt;
+use thiserror::Error;
 
-// Each opcode at its own number, as loading looks one up for each instruction.
+// Each opcode at its own number. A table beside the masks', and not a part of its rows: that one is bound to its form.
 static OPCODES: [Option<Opcode>; 256] = [
     Some(Opcode::Nop),
     Some(Opcode::L),
@@ -266,16 +265,9 @@ static OPCODES: [Option<Opcode>; 256] = [
 ];
 
 // A byte that is no opcode's number.
-#[derive(Clone, Copy, Debug, PartialEq, Eq)]
+#[derive(Clone, Copy, Debug, PartialEq, Eq, Error)]
+#[error("no opcode has the number {0}")]
 pub struct UnknownOpcode(pub u8);
-
-impl fmt::Display for UnknownOpcode {
-    fn fmt<W: fmt::Write>(&self, f: &mut fmt::Formatter<W>) -> fmt::Result {
-        write!(f, "no opcode has the number {}", self.0)
-    }
-}
-
-impl Error for UnknownOpcode {}
 
 impl TryFrom<u8> for Opcode {
     type Error = UnknownOpcode;

@@ -1,5 +1,5 @@
 // The opcodes, by the names that the recorder's maker gives them.
-ghost use Rattle.std.specs.Prelude.{◌≡◌};
+ghost use Rattle.std.specs.Prelude.{◌≡◌, Some};
 ghost use Rattle.opcodes.specs.Mnemonics.{mnemonic};
 ghost use Rattle.opcodes.specs.Numbers.{number};
 
@@ -167,6 +167,8 @@ impl From<Opcode> for u8 {
 }
 
 impl fmt::Display for Opcode {
+    ghost output = { λ o. Some (mnemonic o) };
+
     fn fmt<W: fmt::Write>(&self, f: &mut fmt::Formatter<W>) -> fmt::Result {
         f.write_str(self.mnemonic())
     }

@@ -23,8 +23,8 @@ const COUNTER: u32 = 0x00000040;
 // PC and PP.
 const RECORD: u32 = 0x0c000000;
 
-// A row for each opcode. The project is bound to this form: one table of bytes' masks, proved by one computed test over all its
-// rows and columns.
+// A row for each of the 256 numbers, unknown ones too. This project's operand table has to be one table of masks, proved as a whole by one
+// computed test, so it and the functions that read it go by number.
 static MASKS: [u32; 256] = [
     ALL,
     SOURCE,
@@ -284,26 +284,28 @@ static MASKS: [u32; 256] = [
     ALL,
 ];
 
+// By number, as the table.
 pub fn is_known(opcode: u8) -> bool
     ensures { result ≡ known opcode }
 {
     mask(opcode) != NONE
 }
 
-// Whether an operand that begins with this byte may stand after the opcode.
+// By number, as the table: whether an operand that begins with this byte may stand after the opcode.
 pub fn admits(opcode: u8, first: u8) -> bool
     ensures { result ≡ admitted opcode (first / 8) }
 {
     (mask(opcode) >> (first / 8)) % 2 == 1
 }
 
-// Whether an operand stands there at all; an address is none.
+// By number, as the table: whether an operand stands after the opcode at all; an address is none.
 pub fn takes_operand(opcode: u8) -> bool
     ensures { result ≡ takes_operand opcode }
 {
     !matches!(mask(opcode), NONE | ALL)
 }
 
+// By number, as the table.
 fn mask(opcode: u8) -> u32
     ensures { RowRight opcode result }
 {

@@ -17,7 +17,7 @@ pub enum Cell {
     Activity(u8),
 }
 
-// The cell that an operand's first byte and number name.
+// The cell that an operand's first byte and number name. An operand that does not fit is just none, so there is no error to tell.
 pub fn cell_of(bytes: OperandBytes) -> Option<Cell>
     ensures { result ≡ cell bytes.p1 bytes.p2 }
 {

@@ -68,7 +68,7 @@ impl fmt::Display for Format {
     }
 }
 
-// No Display of `Record`: the letter is this text's own, and a record's name elsewhere.
+// No Display of `Record`: elsewhere it is written by its name, and only an operand has the letter.
 fn letter_of(which: Record) -> char {
     match which {
         Record::Current => 'C',

@@ -1,5 +1,5 @@
 // A page: eight bases over a caller's bytes, each a table that lies there in the page's arrangement.
-ghost use Rattle.std.specs.Prelude.{◌≡◌, ℕ, length, slice_index_or};
+ghost use Rattle.std.specs.Prelude.{◌≡◌, ℕ, length};
 ghost use Rattle.pages.specs.Placements.{nowhere, placement};
 ghost use Rattle.pages.specs.Pages.{page, page_lawful, AllHeld};
 ghost use Rattle.pages.specs.Tables.{Alike};
@@ -45,6 +45,7 @@ impl<'a, A: Arrangement> Page<'a, A> {
         ensures placing { Placing A.address A.written self.old.bytes.now self.old.bases self.new.bases base at result }
         ensures transposed { Alike A.address A.written self.old.bytes.now self.new.bases }
     {
+        // All conditions of the one refusal stand together, here and in `turn`; `get_mut` would have the base apart from the others.
         if base > 7 || !at.fits(self.bytes.len()) {
             return Err(Refusal::BadPlacement);
         }

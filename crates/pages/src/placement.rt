@@ -18,7 +18,7 @@ impl Placement {
 
     pub const MOST_ROWS: u32 = 65_535;
 
-    // Of a base that is absent.
+    // Of a base that is absent. No Option: a placement with an unlawful layout can be handed in, and is refused.
     pub const NOWHERE: Placement = Placement {
         layout: Layout::ABSENT,
         start: 0,

@@ -2,12 +2,12 @@
 ghost use Rattle.std.specs.Prelude.{◌≡◌};
 ghost use Rattle.pages.specs.Refusals.{number};
 
-use std::error::Error;
-use std::fmt;
+use thiserror::Error;
 
-#[derive(Clone, Copy, PartialEq, Eq, Debug)]
+#[derive(Clone, Copy, Debug, PartialEq, Eq, Error)]
 pub enum Refusal {
     // The placement is not one that this page can hold, or there is none to turn.
+    #[error("no placement that the page can hold")]
     BadPlacement = 9,
 }
 
@@ -18,13 +18,3 @@ impl From<Refusal> for u8 {
         refusal as u8
     }
 }
-
-impl fmt::Display for Refusal {
-    fn fmt<W: fmt::Write>(&self, f: &mut fmt::Formatter<W>) -> fmt::Result {
-        match self {
-            Refusal::BadPlacement => f.write_str("no placement that the page can hold"),
-        }
-    }
-}
-
-impl Error for Refusal {}

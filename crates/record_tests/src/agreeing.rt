@@ -1,4 +1,5 @@
 // Whether sources mean the same.
+use crate::inputs::placement;
 use pages::{ColumnPage, Placement, RowPage};
 use records::{Layout, agree};
 use std::test::*;
@@ -54,14 +55,8 @@ fn one_placement_differs(rt: HostRuntime) -> Result<(), Fail> {
         (0, 3, 0, 2, 1, false),
         (1, 2, 0, 4, 2, false),
     ] {
-        let placement = Placement {
-            layout: Layout { length },
-            start,
-            rows,
-            row,
-        };
         let mut b = RowPage::new(&BYTES);
-        b.place(base, placement)?;
+        b.place(base, placement(length, start, rows, row))?;
         assert_eq!(rt;
             agree(&a, &b),
             expected,
@@ -89,12 +84,7 @@ fn absent_pages(rt: HostRuntime) -> Result<(), Fail> {
 fn transposed_tables(rt: HostRuntime) -> Result<(), Fail> {
     let by_rows = [10, 11, 20, 21, 30, 31, 40, 41, 1, 2, 3, 4, 5, 6, 7, 8, 9];
     let by_columns = [10, 20, 30, 40, 11, 21, 31, 41, 1, 4, 7, 2, 5, 8, 3, 6, 9];
-    let three_rows = Placement {
-        layout: Layout { length: 3 },
-        start: 8,
-        rows: 3,
-        row: 2,
-    };
+    let three_rows = placement(3, 8, 3, 2);
     let mut rows = RowPage::new(&by_rows);
     rows.place(0, MIDDLE)?;
     rows.place(7, three_rows)?;
@@ -116,12 +106,7 @@ fn the_same_bytes_by_rows_and_by_columns(rt: HostRuntime) -> Result<(), Fail> {
     let mut columns = ColumnPage::new(&BYTES);
     columns.place(0, MIDDLE)?;
     assert!(rt; !agree(&rows, &columns));
-    let single = Placement {
-        layout: Layout { length: 1 },
-        start: 0,
-        rows: 8,
-        row: 7,
-    };
+    let single = placement(1, 0, 8, 7);
     rows.place(0, single)?;
     columns.place(0, single)?;
     assert!(rt; agree(&rows, &columns));

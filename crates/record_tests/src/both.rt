@@ -1,6 +1,6 @@
 // A row page and a column page that are asked the same.
 use crate::expected::{check_base, check_only};
-use pages::{Arrangement, ColumnPage, Page, Placement, Refusal, RowPage};
+use pages::{ColumnPage, Placement, Refusal, RowPage};
 use records::Source;
 use std::process::Abort;
 
@@ -18,16 +18,23 @@ impl<'a> Both<'a> {
         }
     }
 
-    // Both pages give this answer: 0 where they take the placement, else the refusal's number. It stays a number, so that each
-    // case tests the refusal's too.
+    // Both pages give this answer: 0 where they take the placement, else the refusal's number. It stays a number, as the rules
+    // list it, so that the tables test the refusal's number too.
     pub fn place(&mut self, rt: &impl Abort, base: u8, placement: Placement, answer: u8) {
-        check_placed(rt, "in rows", &mut self.rows, base, placement, answer);
-        check_placed(rt, "in columns", &mut self.columns, base, placement, answer);
+        let answers = (
+            number_of(self.rows.place(base, placement)),
+            number_of(self.columns.place(base, placement)),
+        );
+        assert_eq!(rt; answers, (answer, answer), "base {base}, {placement:?}");
     }
 
+    // The answer is a number, as in `place`.
     pub fn turn(&mut self, rt: &impl Abort, base: u8, row: u32, answer: u8) {
-        check_turned(rt, "in rows", &mut self.rows, base, row, answer);
-        check_turned(rt, "in columns", &mut self.columns, base, row, answer);
+        let answers = (
+            number_of(self.rows.turn(base, row)),
+            number_of(self.columns.turn(base, row)),
+        );
+        assert_eq!(rt; answers, (answer, answer), "base {base}, row {row}");
     }
 
     // How long the records of a base are in each.
@@ -49,30 +56,6 @@ impl<'a> Both<'a> {
         check_only(rt, "in rows", &self.rows, present);
         check_only(rt, "in columns", &self.columns, present);
     }
-}
-
-fn check_placed<A: Arrangement>(
-    rt: &impl Abort,
-    place: &str,
-    page: &mut Page<'_, A>,
-    base: u8,
-    placement: Placement,
-    answer: u8,
-) {
-    let number = number_of(page.place(base, placement));
-    assert_eq!(rt; number, answer, "{place}, base {base}, {placement:?}");
-}
-
-fn check_turned<A: Arrangement>(
-    rt: &impl Abort,
-    place: &str,
-    page: &mut Page<'_, A>,
-    base: u8,
-    row: u32,
-    answer: u8,
-) {
-    let number = number_of(page.turn(base, row));
-    assert_eq!(rt; number, answer, "{place}, base {base}, row {row}");
 }
 
 fn number_of(answer: Result<(), Refusal>) -> u8 {

@@ -1,9 +1,9 @@
 // What the tests expect of a source.
 use records::{Record, Source};
-use std::alloc::{AllocError, Global};
 use std::process::Abort;
 
 // Both records of a base, each given to its last byte and no further. An absent base has none.
+// A source and what messages call it stay two arguments: each call has another pair.
 pub fn check_base<S: Source>(
     rt: &impl Abort,
     place: &str,
@@ -49,9 +49,4 @@ pub fn check_only<S: Source>(rt: &impl Abort, place: &str, source: &S, present: 
             check_base(rt, place, source, base, &[], &[]);
         }
     }
-}
-
-// Byte i is the rest of i by 251.
-pub fn counted(heap: Global, count: usize) -> Result<Vec<u8>, AllocError> {
-    (0..count).map(|i| (i % 251) as u8).collect(heap)
 }

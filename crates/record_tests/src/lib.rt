@@ -8,6 +8,8 @@ mod both;
 #[cfg(test)]
 mod expected;
 #[cfg(test)]
+mod inputs;
+#[cfg(test)]
 mod joints;
 #[cfg(test)]
 mod layouts;

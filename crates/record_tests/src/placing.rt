@@ -1,12 +1,12 @@
 // Which placements a page takes, and that a refused one leaves the page as it was.
 use crate::both::Both;
-use crate::expected::counted;
+use crate::inputs::{counted, placement};
 use pages::Placement;
 use records::Layout;
 use std::process::Abort;
 use std::test::*;
 
-// New pages give this answer, and have the layout afterwards if and only if it is 0.
+// New pages give this answer, and have the layout afterwards if and only if it is 0. It is a number, as in `Both::place`.
 fn check_placing(rt: &impl Abort, bytes: &[u8], base: u8, placement: Placement, answer: u8) {
     let length = if answer == 0 {
         placement.layout.length
@@ -25,14 +25,8 @@ fn check_placing(rt: &impl Abort, bytes: &[u8], base: u8, placement: Placement, 
 
 #[test]
 fn bases_0_to_7(rt: HostRuntime) {
-    let placement = Placement {
-        layout: Layout { length: 4 },
-        start: 0,
-        rows: 2,
-        row: 1,
-    };
     for (base, answer) in [(0, 0), (7, 0), (8, 9), (255, 9)] {
-        check_placing(&rt, &[0; 8], base, placement, answer);
+        check_placing(&rt, &[0; 8], base, placement(4, 0, 2, 1), answer);
     }
 }
 
@@ -41,13 +35,7 @@ fn bases_0_to_7(rt: HostRuntime) {
 fn lengths_1_to_512(rt: HostRuntime) -> Result<(), Fail> {
     let bytes = counted(rt.alloc(), 131_072)?;
     for (length, answer) in [(0, 9), (1, 0), (512, 0), (513, 9), (u16::MAX, 9)] {
-        let placement = Placement {
-            layout: Layout { length },
-            start: 0,
-            rows: 2,
-            row: 1,
-        };
-        check_placing(&rt, &bytes, 0, placement, answer);
+        check_placing(&rt, &bytes, 0, placement(length, 0, 2, 1), answer);
     }
     Ok(())
 }
@@ -72,13 +60,7 @@ fn rows_2_to_65535_and_row_1_to_the_last(rt: HostRuntime) -> Result<(), Fail> {
         (u32::MAX, 1, 9),
         (u32::MAX, u32::MAX, 9),
     ] {
-        let placement = Placement {
-            layout: Layout { length: 1 },
-            start: 0,
-            rows,
-            row,
-        };
-        check_placing(&rt, &bytes, 7, placement, answer);
+        check_placing(&rt, &bytes, 7, placement(1, 0, rows, row), answer);
     }
     Ok(())
 }
@@ -104,13 +86,7 @@ fn rows_end_within_the_bytes(rt: HostRuntime) -> Result<(), Fail> {
         (512, usize::MAX, 65_535, 9),
         (u16::MAX, usize::MAX, u32::MAX, 9),
     ] {
-        let placement = Placement {
-            layout: Layout { length },
-            start,
-            rows,
-            row: 1,
-        };
-        check_placing(&rt, &bytes, 0, placement, answer);
+        check_placing(&rt, &bytes, 0, placement(length, start, rows, 1), answer);
     }
     Ok(())
 }
@@ -126,13 +102,7 @@ fn few_bytes(rt: HostRuntime) {
         (&[5, 6, 7], 1, 0),
     ];
     for (bytes, start, answer) in cases {
-        let placement = Placement {
-            layout: Layout { length: 1 },
-            start,
-            rows: 2,
-            row: 1,
-        };
-        check_placing(&rt, bytes, 0, placement, answer);
+        check_placing(&rt, bytes, 0, placement(1, start, 2, 1), answer);
     }
 }
 
@@ -172,13 +142,7 @@ fn refused_placements_leave_all_as_it_was(rt: HostRuntime) {
         (8, 3, 4, 2, 1),
         (255, 3, 4, 2, 1),
     ] {
-        let placement = Placement {
-            layout: Layout { length },
-            start,
-            rows,
-            row,
-        };
-        pages.place(&rt, base, placement, 9);
+        pages.place(&rt, base, placement(length, start, rows, row), 9);
         pages.check_base(&rt, 3, &[20, 21, 22], &[10, 11, 12]);
         pages.check_only(&rt, 3);
     }

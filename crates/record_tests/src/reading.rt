@@ -1,8 +1,8 @@
 // Which bytes of a page are the records of a base.
 use crate::both::Both;
-use crate::expected::{check_base, counted};
-use pages::Placement;
-use records::{Layout, Record, Source};
+use crate::expected::check_base;
+use crate::inputs::{counted, placement};
+use records::{Record, Source};
 use std::process::Abort;
 use std::test::*;
 
@@ -26,13 +26,7 @@ fn by_rows_and_by_columns(rt: HostRuntime) {
         (6, 12, 0, 2, 1),
         (7, 5, 4, 4, 3),
     ] {
-        let placement = Placement {
-            layout: Layout { length },
-            start,
-            rows,
-            row,
-        };
-        pages.place(&rt, base, placement, 0);
+        pages.place(&rt, base, placement(length, start, rows, row), 0);
     }
     check_base(&rt, "in rows", &pages.rows, 0, b"IJK", b"FGH");
     check_base(&rt, "in rows", &pages.rows, 1, b"V", b"U");
@@ -63,13 +57,7 @@ fn by_rows_and_by_columns(rt: HostRuntime) {
 fn eight_bases(rt: HostRuntime) {
     let mut pages = Both::new(LETTERS, LETTERS);
     for base in 0..8u8 {
-        let placement = Placement {
-            layout: Layout { length: 1 },
-            start: 3 * base as usize,
-            rows: 2,
-            row: 1,
-        };
-        pages.place(&rt, base, placement, 0);
+        pages.place(&rt, base, placement(1, 3 * base as usize, 2, 1), 0);
     }
     for base in 0..8 {
         let first = b'A' + 3 * base;
@@ -80,12 +68,7 @@ fn eight_bases(rt: HostRuntime) {
 #[test]
 fn the_longest_records(rt: HostRuntime) -> Result<(), Fail> {
     let bytes = counted(rt.alloc(), 1024)?;
-    let longest = Placement {
-        layout: Layout { length: 512 },
-        start: 0,
-        rows: 2,
-        row: 1,
-    };
+    let longest = placement(512, 0, 2, 1);
     let mut pages = Both::new(&bytes, &bytes);
     pages.place(&rt, 0, longest, 0);
     check_bytes(

@@ -1,6 +1,6 @@
 // Which rows a base can be turned to, and what it shows then.
 use crate::both::Both;
-use crate::expected::counted;
+use crate::inputs::{counted, placement};
 use pages::Placement;
 use records::Layout;
 use std::test::*;
@@ -60,12 +60,7 @@ fn one_base_turns(rt: HostRuntime) {
     pages.turn(&rt, 0, 1, 0);
     pages.check_base(&rt, 0, &[20, 21], &[10, 11]);
     pages.check_base(&rt, 1, &[40, 41], &[30, 31]);
-    let fewer = Placement {
-        layout: Layout { length: 1 },
-        start: 0,
-        rows: 3,
-        row: 1,
-    };
+    let fewer = placement(1, 0, 3, 1);
     pages.place(&rt, 0, fewer, 0);
     pages.turn(&rt, 0, 3, 9);
     pages.turn(&rt, 1, 3, 0);
@@ -75,12 +70,7 @@ fn one_base_turns(rt: HostRuntime) {
 #[test]
 fn the_most_rows(rt: HostRuntime) -> Result<(), Fail> {
     let bytes = counted(rt.alloc(), 65_535)?;
-    let most = Placement {
-        layout: Layout { length: 1 },
-        start: 0,
-        rows: 65_535,
-        row: 1,
-    };
+    let most = placement(1, 0, 65_535, 1);
     let mut pages = Both::new(&bytes, &bytes);
     pages.place(&rt, 0, most, 0);
     pages.turn(&rt, 0, 65_534, 0);

@@ -1,5 +1,5 @@
 // Whether two sources mean the same, found by asking both for every byte.
-ghost use Rattle.std.specs.Prelude.{◌≡◌, ℕ, ◌<◌, ◌↔◌, IsTrue};
+ghost use Rattle.std.specs.Prelude.{◌↔◌, IsTrue};
 ghost use Rattle.records.specs.Meaning.{Same, SameBase, Answers};
 
 use crate::record::Record;

@@ -2,7 +2,8 @@
 ghost use Rattle.std.specs.Prelude.{◌≡◌, ◌==◌};
 ghost use Rattle.records.specs.Layouts.{lawful};
 
-// A length of 0 stands for an absent base. Any other number can be written down too, and is judged by `is_lawful`.
+// A length of 0 stands for an absent base. Any other number can be written down too, and is judged by `is_lawful`: no Option, since callers
+// hand in unlawful layouts and are told so.
 #[derive(Clone, Copy, PartialEq, Eq, Debug)]
 pub struct Layout {
     pub length: u16,

@@ -122,7 +122,12 @@ module _ (text left rest : List Control) (weights : List ℕ) (next i : ℕ) (w 
         near = here ∙ ap (λ m. capped (weight text m)) ei;
       }
 
-  pub back : (a k : ℕ) → a ≡ address x → k ≡ max a (i + 1) → Back text rest weights next i k x
-  back a k ea ek =
+  back_at : (a k : ℕ) → a ≡ address x → k ≡ max a (i + 1) → Back text rest weights next i k x
+  back_at a k ea ek =
       let e : slot ≡ k = ap (λ b. max b (i + 1)) (sym ea) ∙ sym ek in
       subst (λ s. Back text rest weights next i s x) e (record { inside = omega (arith, slot_inside); low = omega (arith, target_is); more = weighed_more })
+
+-- the same as a turn of the walk has it, whose numbers count from 0
+pub back : {text left rest : List Control} {weights : List ℕ} {next i first a k : ℕ} {x : Control} → length text ≤ 1024 → Inside text → first ≡ 0 → Weighed text left weights next
+    → left ≡ rest ++ x ∷ [] → i ≡ first + length rest → a ≡ address x → k ≡ max a (i + 1) → Back text rest weights next i k x
+back few inside ef w e ei ea ek = back_at _ _ _ _ _ _ w _ e (omega (arith, ef, ei)) few inside _ _ ea ek

@@ -1,15 +1,14 @@
 -- Called addresses, depths, sections and ranks, one instruction after another.
-use Rattle.std.proofs.Common.{◌≡◌, ℕ, zero, suc, ◌+◌, ◌<◌, ◌≤◌, max, Bool, true, false, cond, ◌||◌, eqb, List, [], ◌∷◌, length, get_or, take, set, Some, None, Option, is_some, unwrap_or, slice_get, sym, refl, ap, ◌∙◌, ⊎_elim, add-one, arith}
+use Rattle.std.proofs.Common.{◌≡◌, ℕ, zero, suc, ◌+◌, ◌<◌, ◌≤◌, max, Bool, true, false, cond, ◌||◌, eqb, List, [], ◌∷◌, length, get_or, take, set, Some, Option, is_some, unwrap_or, slice_get, sym, refl, ap, ◌∙◌, ⊎_elim, add-one, arith}
 use Rattle.std.specs.Bool.{then_some}
 use Rattle.std.specs.Option.{option_map}
 use Rattle.std.proofs.Math.Bool.{or_comm}
 use Rattle.std.proofs.lemmas.List.{take_all, length-set, get_or-set_same, get_or-set_other}
 use Rattle.std.proofs.lemmas.Option.{slice_get-get_or, get_or_from_slice_get}
-use Rattle.std.proofs.lemmas.Bool.{eq-eqb, ne_eqb, cases_eq, cond_both}
+use Rattle.std.proofs.lemmas.Bool.{ne_eqb, cases_eq, cond_both}
 use Rattle.std.specs.List.{list_any}
-use Rattle.std.proofs.lemmas.List.Folds.{list_any_more}
 use Rattle.control.specs.declared.control.Control.{Control}
-use Rattle.control.specs.declared.control.Control.TheVariants.{Plain, Push, Call}
+use Rattle.control.specs.declared.control.Control.TheVariants.{Push}
 use Rattle.control.specs.declared.place.Place.{Place}
 use Rattle.control.specs.Rules.{place}
 use Rattle.control.specs.Texts.{at, ground, stacked, depth, calls, called, starts, section, asked_more, ranks, rank}
@@ -23,24 +22,6 @@ called_is (c ∷ cs) s = ap (λ b. calls c s || b) (called_is cs s)
 
 pub called_all : (text : List Control) (i s : ℕ) → length text ≤ i → list_any (λ c. calls c s) (take i text) ≡ called text s
 called_all text i s h = ap (list_any (λ c. calls c s)) (take_all i text h) ∙ called_is text s
-
-marked : (asked : List (Option ℕ)) (i s : ℕ) (b : Bool) → i < length asked → get_or asked s None ≡ then_some b 1
-    → get_or (set asked i (Some 1)) s None ≡ then_some (b || eqb i s) 1
-marked asked i s b h e =
-    ⊎_elim (λ (same : i ≡ s). rw (eq-eqb i s same, or_comm b true) (ap (λ k. get_or (set asked i (Some 1)) k None) (sym same) ∙ get_or-set_same asked i (Some 1) None h))
-    (λ apart. rw (ne_eqb i s apart, or_comm b false) (get_or-set_other asked i s (Some 1) None (λ k. apart (sym k)) ∙ e)) (cases_eq i s)
-
-calls_none : (c : Control) (s : ℕ) → ((x : ℕ) → c ≡ Call x → ⊥) → calls c s ≡ false
-calls_none (Call k) s h = absurd (h k refl)
-calls_none _ s h = refl
-
--- one instruction more: a call, and any other
-module _ (text : List Control) (i s : ℕ) (asked : List (Option ℕ)) (h : i < length text) (so_far : get_or asked s None ≡ then_some (list_any (λ c. calls c s) (take i text)) 1) where
-  pub called_by : (target : ℕ) → at text i ≡ Call target → target < length asked → get_or (set asked target (Some 1)) s None ≡ then_some (list_any (λ c. calls c s) (take (i + 1) text)) 1
-  called_by target e inside = rw (list_any_more (λ c. calls c s) text i Plain h, e) (marked asked target s (list_any (λ c. calls c s) (take i text)) inside so_far)
-
-  pub called_still : ((x : ℕ) → at text i ≡ Call x → ⊥) → get_or asked s None ≡ then_some (list_any (λ c. calls c s) (take (i + 1) text)) 1
-  called_still none = rw (list_any_more (λ c. calls c s) text i Plain h, calls_none (at text i) s none, or_comm (list_any (λ c. calls c s) (take i text)) false) so_far
 
 -- ---- depths
 

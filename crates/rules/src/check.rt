@@ -1,24 +1,12 @@
 // The rules at one instruction.
-ghost use Rattle.std.specs.Prelude.{◌≡◌, ◌<◌};
-ghost use Rattle.control.specs.Texts.{stacked};
-ghost use Rattle.control.specs.Rules.{first_of, checks, address};
+ghost use Rattle.std.specs.Prelude.{◌≡◌};
+ghost use Rattle.control.specs.Rules.{first_of, checks};
 
-use control::{Control, LoadingCode, MOST_INSTRUCTIONS, Place};
-
-// Depths are counted from here, so that none falls below 0.
-pub const GROUND: u16 = MOST_INSTRUCTIONS as u16;
-
-// A function of this crate, as are `stack` and `goes_back`: a method of `Control` would promise it to everybody.
-pub fn address_of(kind: Control) -> u16
-    ensures { result ≡ address kind }
-{
-    match kind {
-        Control::JumpIf(target) | Control::Jump(target) | Control::Call(target) => target,
-        _ => 0,
-    }
-}
+use crate::step::GROUND;
+use control::{Control, LoadingCode, Place};
 
 // The first rule that an instruction breaks, in the order in which they are told, with the place of its address.
+// An Option, as `first_of` is: it answers which rule is broken, if any, and nothing hands that on by `?`.
 pub fn check(kind: Control, place: Place, target: Place) -> Option<LoadingCode>
     ensures { result ≡ first_of (checks kind place target.depth target.section) }
 {
@@ -42,17 +30,5 @@ pub fn check(kind: Control, place: Place, target: Place) -> Option<LoadingCode>
         Control::Call(address) if address <= place.number => Some(LoadingCode::CallsBack),
         Control::Call(_) if place.rank == 8 => Some(LoadingCode::CallTooDeep),
         _ => None,
-    }
-}
-
-// The depth after an instruction.
-pub fn stack(kind: Control, depth: u16) -> u16
-    requires { depth < 65535 }
-    ensures { result ≡ stacked kind depth }
-{
-    match kind {
-        Control::Push => depth + 1,
-        Control::Pop => depth.saturating_sub(1),
-        _ => depth,
     }
 }

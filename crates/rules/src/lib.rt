@@ -6,6 +6,7 @@ mod error;
 mod judge;
 mod places;
 mod scan;
+mod step;
 mod text;
 mod weigh;
 

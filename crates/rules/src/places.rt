@@ -6,7 +6,7 @@ ghost use Rattle.control.specs.Texts.{stacked, calls, called};
 ghost use Rattle.control.specs.Rules.{address};
 ghost use Rattle.rules.specs.Maps.{Mapped};
 
-use crate::check::{GROUND, stack};
+use crate::step::{GROUND, stack};
 use crate::text::{SLOTS, Text};
 use control::{Control, MOST_INSTRUCTIONS, Place};
 
@@ -15,6 +15,7 @@ type Asked = [Option<u16>; SLOTS];
 
 impl Text<'_> {
     // In the order of the text, with what the calls on the way ask of later sections.
+    // Like the other tables here it is fixed memory, for this layer has no heap, and is looked up by address.
     pub fn places(self) -> [Place; MOST_INSTRUCTIONS]
         ensures { Mapped self.entry.kinds.now result }
     {
@@ -76,20 +77,17 @@ fn after(place: Place, kind: Control, begins: Option<u16>) -> Place
     ensures section { result.section ≡ (if is_some begins then place.number + 1 else place.section) }
     ensures rank { result.rank ≡ unwrap_or begins place.rank }
 {
-    let number = place.number + 1;
-    let depth = stack(kind, place.depth);
+    let next = Place {
+        number: place.number + 1,
+        depth: stack(kind, place.depth),
+        ..place
+    };
     match begins {
         Some(rank) => Place {
-            number,
-            depth,
-            section: number,
+            section: next.number,
             rank,
-            ..place
+            ..next
         },
-        None => Place {
-            number,
-            depth,
-            ..place
-        },
+        None => next,
     }
 }

@@ -2,11 +2,14 @@
 ghost use Rattle.std.specs.Prelude.{◌≡◌, length};
 ghost use Rattle.control.specs.Rules.{first_broken};
 
-use crate::check::{address_of, check};
+use crate::check::check;
+use crate::step::address_of;
 use crate::text::Text;
 use control::LoadingCode;
 
 impl Text<'_> {
+    // An Option of a pair, as the definition `first_broken` is: which rule is broken and where, if any. Nothing hands it on by `?`, and `judge`
+    // takes the pair apart at once.
     pub fn first_broken(self) -> Option<(LoadingCode, u16)>
         ensures { result ≡ first_broken self.entry.kinds.now (length self.entry.kinds.now) }
     {

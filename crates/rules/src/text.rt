@@ -1,9 +1,9 @@
 // A control text that can be judged: 1 to 1,024 instructions, whose addresses are all its own.
-ghost use Rattle.std.specs.Prelude.{◌≡◌, ◌<◌, ◌≤◌, length};
+ghost use Rattle.std.specs.Prelude.{◌<◌, ◌≤◌, length};
 ghost use Rattle.control.specs.Rules.{Inside};
 
-use crate::check::address_of;
 use crate::error::TextError;
+use crate::step::address_of;
 use control::{Control, MOST_INSTRUCTIONS};
 
 // A slot for each address, and one past the last.

@@ -1,9 +1,9 @@
 // The step bound of a text.
-ghost use Rattle.std.specs.Prelude.{◌≡◌, ℕ, ◌+◌, ◌-◌, ◌<◌, ◌≤◌, min, max, length};
+ghost use Rattle.std.specs.Prelude.{◌≡◌, ◌+◌, ◌≤◌, length};
 ghost use Rattle.control.specs.Weights.{jumps_back, loops, weigh, weight, bound};
 ghost use Rattle.rules.specs.Caps.{capped};
 
-use crate::check::address_of;
+use crate::step::address_of;
 use crate::text::{SLOTS, Text};
 use control::Control;
 
@@ -18,7 +18,7 @@ impl Text<'_> {
             return None;
         }
         let weight = self.start_weight();
-        if weight <= LIMIT { Some(weight) } else { None }
+        (weight <= LIMIT).then_some(weight)
     }
 
     // Whether some jump does not go forward.

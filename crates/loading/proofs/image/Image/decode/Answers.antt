@@ -1,27 +1,10 @@
-use Rattle.std.proofs.Common.{length, sym, ap, subst, ◌∙◌, lit<, arith, rules}
+use Rattle.std.proofs.Common.{sym, subst, ◌∙◌, arith}
 use Rattle.std.specs.Slice.Iter.{chunks_exact_rest}
 use Rattle.arrayvec.specs.ArrayVec.{array_vec_len}
 use Rattle.loading.specs.Decoded.{StandsFor, nothing}
-use Rattle.loading.proofs.Chunking.{Taken, start, next, ended, pushed}
-use Rattle.loading.proofs.Passing.{sized}
+use Rattle.loading.proofs.Chunking.{Taken, next, ended, pushed}
 use Rattle.loading.proofs.Filling.{stands}
 use Rattle.loading.proofs.image.Image.decode.Goals as goal
-
-pub loop-bytes-init : goal.loop-bytes-init
-loop-bytes-init c =
-    let image = c.args.self.bytes.now in
-    let none = ap length c.clear.ensures in
-    let all = ap chunks_exact_rest c.into_iter-bytes-iterator.ensures.into_iter_gives ∙ c.chunks_exact-bytes-items.ensures.rest in (
-      search rules,
-      subst (Taken image (chunks_exact_rest c.into_iter-bytes-iterator.result)) (sym none) (subst (λ l. Taken image l 0) (sym all) (start image)),
-      λ k lt. absurd (omega (arith, none)),
-    )
-
-pub push-requires : goal.push-requires
-push-requires c =
-    let s = c.in-Some.ensures.steps in
-    let n = next c.args.self.bytes.now _ _ _ _ c.loop-bytes.invariant.1 s.1.0 (s.1.1 ∙ c.loop-bytes.invariant.0) in
-    (lit< tt, omega (arith, n.inside, (sized c.args.self.bytes.now c.args.self.lawful).few))
 
 pub loop-bytes-preserved : goal.loop-bytes-preserved
 loop-bytes-preserved c =

@@ -1,4 +1,4 @@
-use Rattle.std.proofs.Common.{◌∙◌, rules, arith}
+use Rattle.std.proofs.Common.{◌∙◌, rules}
 use Rattle.std.specs.Iterator.Adapters.{rev_source, enumerate_source}
 use Rattle.std.specs.Slice.Iter.{iter_rest}
 use Rattle.rules.proofs.Capping.{weighed_start, back}
@@ -10,14 +10,12 @@ loop-i-init c = (search rules, search rules, cc, weighed_start c.args.self.kinds
 pub bounds-weights-max : goal.bounds-weights-max
 bounds-weights-max c =
     let step = c.in-Some.ensures.steps.1 in
-    (back c.args.self.kinds.now _ _ c.loop-i.weights c.loop-i.next c.in-Some.i c.loop-i.invariant.3 c.in-Some.field-0-1.now step.0 (omega (arith, step.1, c.loop-i.invariant.2)) c.args.self.few c.args.self.inside
-    _ _ c.address_of.ensures c.max.ensures).inside
+    (back c.args.self.few c.args.self.inside c.loop-i.invariant.2 c.loop-i.invariant.3 step.0 step.1 c.address_of.ensures c.max.ensures).inside
 
 pub capped_weight-next-requires-clause-low : goal.capped_weight-next-requires-clause-low
 capped_weight-next-requires-clause-low c =
     let step = c.in-Some.ensures.steps.1 in
-    (back c.args.self.kinds.now _ _ c.loop-i.weights c.loop-i.next c.in-Some.i c.loop-i.invariant.3 c.in-Some.field-0-1.now step.0 (omega (arith, step.1, c.loop-i.invariant.2)) c.args.self.few c.args.self.inside
-    _ _ c.address_of.ensures c.max.ensures).low
+    (back c.args.self.few c.args.self.inside c.loop-i.invariant.2 c.loop-i.invariant.3 step.0 step.1 c.address_of.ensures c.max.ensures).low
 
 pub loop-i-preserved : goal.loop-i-preserved
 loop-i-preserved c =
@@ -25,6 +23,5 @@ loop-i-preserved c =
       search rules,
       search rules,
       c.in-Some.ensures.steps.0 ∙ c.loop-i.invariant.2,
-      (back c.args.self.kinds.now _ _ c.loop-i.weights c.loop-i.next c.in-Some.i c.loop-i.invariant.3 c.in-Some.field-0-1.now step.0 (omega (arith, step.1, c.loop-i.invariant.2)) c.args.self.few c.args.self.inside
-          _ _ c.address_of.ensures c.max.ensures).more _ c.capped_weight-next.ensures,
+      (back c.args.self.few c.args.self.inside c.loop-i.invariant.2 c.loop-i.invariant.3 step.0 step.1 c.address_of.ensures c.max.ensures).more _ c.capped_weight-next.ensures,
     )
