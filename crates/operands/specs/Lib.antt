@@ -1,3 +1,4 @@
 pub mod Cells
 pub mod Operands
 pub mod Parts
+pub mod Texts

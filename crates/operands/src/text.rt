@@ -1,4 +1,7 @@
 // Operands as text, as the recorder's maker writes them.
+ghost use Rattle.std.specs.Prelude.{◌≡◌, Some};
+ghost use Rattle.operands.specs.Texts.{letter, base_text, cell_text, format_text, field_text, byte_text, operand_text};
+
 use crate::base_record::BaseRecord;
 use crate::cell::Cell;
 use crate::operand::{Field, Format, MaskedByte, Operand};
@@ -6,6 +9,8 @@ use records::Record;
 use std::fmt;
 
 impl fmt::Display for Operand {
+    ghost output = { operand_text };
+
     fn fmt<W: fmt::Write>(&self, f: &mut fmt::Formatter<W>) -> fmt::Result {
         match self {
             Operand::Nothing => Ok(()),
@@ -20,6 +25,8 @@ impl fmt::Display for Operand {
 }
 
 impl fmt::Display for Cell {
+    ghost output = { λ x. Some (cell_text x) };
+
     fn fmt<W: fmt::Write>(&self, f: &mut fmt::Formatter<W>) -> fmt::Result {
         match self {
             Cell::Event(which, n) => write!(f, "~E{}.{n}", letter_of(*which)),
@@ -33,6 +40,8 @@ impl fmt::Display for Cell {
 }
 
 impl fmt::Display for Field {
+    ghost output = { λ x. Some (field_text x) };
+
     fn fmt<W: fmt::Write>(&self, f: &mut fmt::Formatter<W>) -> fmt::Result {
         let Field {
             from,
@@ -45,6 +54,8 @@ impl fmt::Display for Field {
 }
 
 impl fmt::Display for MaskedByte {
+    ghost output = { λ x. Some (byte_text x) };
+
     fn fmt<W: fmt::Write>(&self, f: &mut fmt::Formatter<W>) -> fmt::Result {
         let MaskedByte { from, offset, mask } = self;
         write!(f, "~B{from}.{offset:X}&{mask:X}")
@@ -53,12 +64,16 @@ impl fmt::Display for MaskedByte {
 
 // The record's letter, which ends the name of an operand's kind, and the base.
 impl fmt::Display for BaseRecord {
+    ghost output = { λ x. Some (base_text x) };
+
     fn fmt<W: fmt::Write>(&self, f: &mut fmt::Formatter<W>) -> fmt::Result {
         write!(f, "{}.{}", letter_of(self.which), self.base)
     }
 }
 
 impl fmt::Display for Format {
+    ghost output = { λ x. Some (format_text x) };
+
     fn fmt<W: fmt::Write>(&self, f: &mut fmt::Formatter<W>) -> fmt::Result {
         f.write_str(match self {
             Format::Bcd => "b",
@@ -69,9 +84,11 @@ impl fmt::Display for Format {
 }
 
 // No Display of `Record`: elsewhere it is written by its name, and only an operand has the letter.
-fn letter_of(which: Record) -> char {
+fn letter_of(which: Record) -> &'static str
+    ensures { result.now ≡ letter which }
+{
     match which {
-        Record::Current => 'C',
-        Record::Previous => 'P',
+        Record::Current => "C",
+        Record::Previous => "P",
     }
 }
