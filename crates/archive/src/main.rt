@@ -17,19 +17,25 @@ fn main(rt: HostRuntime) -> Result<(), Failure> {
 }
 
 fn run(rt: &HostRuntime) -> Result<(), Failure> {
-    let heap = rt.alloc();
     let mut words = env::args(rt)?.skip(1);
     let (Some(archive), Some(program)) = (words.next(), words.next()) else {
         return Err(anyhow!("usage: archive ARCHIVE PROGRAM").into());
     };
     let records = read_archive(rt, archive.as_str())?;
-    let text = read_text(rt, program.as_str())?;
+    show_program(rt, program.as_str())?;
+    walk::walk(rt, &records)?;
+    Ok(())
+}
+
+// A function of its own, so that the program's text and image are let go before the walk, which needs the memory.
+fn show_program(rt: &HostRuntime, path: &str) -> Result<(), Failure> {
+    let heap = rt.alloc();
+    let text = read_text(rt, path)?;
     let image = parse_bytes(heap, text.as_str()).try_map_err(|e| Failure::told(
         heap,
-        format_args!("{program} is no program: {e}"),
+        format_args!("{path} is no program: {e}"),
     ))?;
     loss::show_loss(rt, image.as_slice())?;
-    walk::walk(rt, &records)?;
     Ok(())
 }
 

@@ -1,4 +1,5 @@
 pub mod Archives
+pub mod Parts
 pub mod Texts
 pub mod Totals
 pub mod Transposes

@@ -5,7 +5,7 @@ ghost use Rattle.metering.specs.Texts.{hex_digit, byte_of, with_byte, AsDefined}
 use crate::fault::ArchiveFault;
 
 // Adds the byte of one word, which stands in the line of that number (an argument, as in `push_line`).
-pub(crate) fn push_byte(bytes: &mut Vec<u8>, word: &str, number: usize) -> Result<(), ArchiveFault>
+pub(crate) fn push_byte(bytes: &mut Vec<u8>, word: &[u8], number: usize) -> Result<(), ArchiveFault>
     ensures answer { AsDefined (with_byte number bytes.old.items (byte_of word.now)) (λ _. bytes.new.items) result }
     ensures one { OnOk result (vec_len bytes.new ≡ vec_len bytes.old + 1) }
 {
@@ -14,10 +14,10 @@ pub(crate) fn push_byte(bytes: &mut Vec<u8>, word: &str, number: usize) -> Resul
     Ok(())
 }
 
-fn hex_byte(word: &str) -> Option<u8>
+fn hex_byte(word: &[u8]) -> Option<u8>
     ensures { result ≡ byte_of word.now }
 {
-    let &[high, low] = word.as_bytes() else {
+    let &[high, low] = word else {
         return None;
     };
     Some(hex_digit(high)? * 16 + hex_digit(low)?)

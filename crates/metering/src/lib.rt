@@ -5,6 +5,7 @@ mod archive;
 mod copy;
 mod fault;
 mod hex;
+mod parts;
 mod reading;
 mod record;
 mod transpose;

@@ -35,6 +35,21 @@ fn whole_records_are_taken(rt: HostRuntime) -> Result<(), Fail> {
     Ok(())
 }
 
+// Each archive has two records at least. Whoever is lent one knows it, so no index is tested here.
+fn first_and_last_of_two(archive: &Archive) -> (u8, u8) {
+    (archive.bytes()[0], archive.bytes()[199])
+}
+
+#[test]
+fn an_archive_has_two_records(rt: HostRuntime) -> Result<(), Fail> {
+    let heap = rt.alloc();
+    let mut text = line(heap, "0a", 100, "\n")?;
+    text.push_str(line(heap, "F9", 100, "\n")?.as_str())?;
+    let archive = Archive::parse(heap, text.as_str())?;
+    assert_eq!(rt; first_and_last_of_two(&archive), (10, 249));
+    Ok(())
+}
+
 #[test]
 fn other_texts_are_refused(rt: HostRuntime) -> Result<(), Fail> {
     let heap = rt.alloc();

@@ -1,7 +1,7 @@
 use Rattle.std.proofs.Common.{◌≡◌, ◌+◌, ◌-◌, vec_items, vec_len}
 use Rattle.metering.specs.Archives.{with_record}
 use Rattle.metering.specs.Texts.{words}
-use Rattle.metering.proofs.Cutting.{words_left}
+use Rattle.metering.specs.Parts.{words_left}
 use Rattle.metering.proofs.archive.push_record.Given as goal
 
 -- from here it ends as from the start

@@ -1,6 +1,6 @@
 use Rattle.std.proofs.Common.{◌≡◌, vec_items}
+use Rattle.metering.specs.Parts.{words_left}
 use Rattle.metering.specs.Texts.{words, with_words}
-use Rattle.metering.proofs.Cutting.{words_left}
 use Rattle.metering.proofs.reading.push_line.Given as goal
 
 -- from here it ends as from the start
