@@ -1,5 +1,5 @@
 // The verdict on an image.
-ghost use Rattle.std.specs.Prelude.{◌≡◌, MatchResult};
+ghost use Rattle.std.specs.Prelude.{◌≡◌, [], MatchResult};
 ghost use Rattle.loading.specs.Verdicts.{verdict, Passes, FailsAlone};
 ghost use Rattle.loading.specs.Meaning.{Says};
 ghost use Rattle.loading.specs.Examples.{Examples};
@@ -35,19 +35,22 @@ impl Image<'_> {
         ensures says { Says layouts.now self.entry.bytes.now result }
         ensures trusted { TrustedImage layouts.now self.entry.bytes.now result }
     {
-        let kinds = self.control_text(layouts)?;
+        let mut kinds = ArrayVec::new();
+        self.fill_text(layouts, &mut kinds)?;
         Ok(judge_text(kinds.as_slice())?)
     }
 
-    // What each instruction does to the flow of control, or the first that breaks a rule by itself.
-    fn control_text(
+    // Notes what each instruction does to the flow of control, up to the first that breaks a rule by itself. The text is lent to it: one that is
+    // handed back in a Result is copied whole, however short.
+    fn fill_text(
         self,
         layouts: &[Layout; 8],
-    ) -> Result<ArrayVec<Control, MOST_INSTRUCTIONS>, LoadError>
-        ensures { MatchResult result (Passes layouts.now self.entry.bytes.now) (FailsAlone layouts.now self.entry.bytes.now) }
+        kinds: &mut ArrayVec<Control, MOST_INSTRUCTIONS>,
+    ) -> Result<(), LoadError>
+        requires { kinds.old.items ≡ [] }
+        ensures { MatchResult result (λ _. Passes layouts.now self.entry.bytes.now kinds.new) (FailsAlone layouts.now self.entry.bytes.now) }
     {
         let count = self.count();
-        let mut kinds = ArrayVec::new();
         for bytes in self.bytes.chunks_exact(WIDTH) {
             let number = kinds.len() as u16;
             let kind = Encoded::of(bytes)
@@ -55,6 +58,6 @@ impl Image<'_> {
                 .map_err(|code| LoadError::Breaks(code, number))?;
             kinds.push(kind);
         }
-        Ok(kinds)
+        Ok(())
     }
 }

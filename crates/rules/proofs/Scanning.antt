@@ -9,7 +9,7 @@ use Rattle.control.specs.Rules.{place, first_of, checks, address, Inside, broken
 use Rattle.rules.specs.Maps.{Mapped}
 
 module _ (text : List Control) (places : List Place) (inside : Inside text) (mapped : Mapped text places) where
-  told_broken : (n : ℕ) → n < length text → (kind : Control) (p d : Place) (a : ℕ) → kind ≡ at text n → p ≡ place text n → a ≡ address kind
+  pub told_broken : (n : ℕ) → n < length text → (kind : Control) (p d : Place) (a : ℕ) → kind ≡ at text n → p ≡ place text n → a ≡ address kind
       → first_of (checks kind p (get_or places a d).depth (get_or places a d).section) ≡ broken text n
   told_broken n here kind p d a ek ep ea =
       let there = address (at text n) in

@@ -15,12 +15,13 @@ type Asked = [Option<u16>; SLOTS];
 
 impl Text<'_> {
     // In the order of the text, with what the calls on the way ask of later sections.
-    // Like the other tables here it is fixed memory, for this layer has no heap, and is looked up by address.
-    pub fn places(self) -> [Place; MOST_INSTRUCTIONS]
-        ensures { Mapped self.entry.kinds.now result }
+    // Like the other tables here it is fixed memory, for this layer has no heap, and is looked up by address. Tables are lent to what fills
+    // them: one that is handed back is copied whole, however short the text.
+    pub fn fill_places(self, places: &mut [Place; MOST_INSTRUCTIONS])
+        ensures { Mapped self.entry.kinds.now places.new }
     {
-        let mut asked = self.called_addresses();
-        let mut places = [Place::default(); MOST_INSTRUCTIONS];
+        let mut asked = [None; SLOTS];
+        self.fill_called(&mut asked);
         let mut place = Place {
             depth: GROUND,
             ..Place::default()
@@ -31,20 +32,18 @@ impl Text<'_> {
             ask(&mut asked, kind, place.rank);
             place = after(place, kind, asked[n + 1]);
         }
-        places
     }
 
     // Each section that is called has at least rank 1.
-    fn called_addresses(self) -> Asked
-        ensures { (s : ℕ) → s < SLOTS → slice_index_or result s None ≡ then_some (called self.entry.kinds.now s) 1 }
+    fn fill_called(self, asked: &mut Asked)
+        requires { (s : ℕ) → s < SLOTS → slice_index_or asked.old s None ≡ None }
+        ensures { (s : ℕ) → s < SLOTS → slice_index_or asked.new s None ≡ then_some (called self.entry.kinds.now s) 1 }
     {
-        let mut asked = [None; SLOTS];
         for &kind in self.kinds {
             if let Control::Call(target) = kind {
                 asked[target as usize] = Some(1);
             }
         }
-        asked
     }
 
     // Whether an instruction is the last of its section.

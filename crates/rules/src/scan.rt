@@ -5,7 +5,7 @@ ghost use Rattle.control.specs.Rules.{first_broken};
 use crate::check::check;
 use crate::step::address_of;
 use crate::text::Text;
-use control::LoadingCode;
+use control::{LoadingCode, MOST_INSTRUCTIONS, Place};
 
 impl Text<'_> {
     // An Option of a pair, as the definition `first_broken` is: which rule is broken and where, if any. Nothing hands it on by `?`, and `judge`
@@ -13,7 +13,8 @@ impl Text<'_> {
     pub fn first_broken(self) -> Option<(LoadingCode, u16)>
         ensures { result ≡ first_broken self.entry.kinds.now (length self.entry.kinds.now) }
     {
-        let places = self.places();
+        let mut places = [Place::default(); MOST_INSTRUCTIONS];
+        self.fill_places(&mut places);
         for (&kind, &place) in self.kinds.iter().zip(&places) {
             let target = places[address_of(kind) as usize];
             if let Some(code) = check(kind, place, target) {

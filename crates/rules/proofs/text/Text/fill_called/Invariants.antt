@@ -2,7 +2,7 @@ use Rattle.std.proofs.Common.{◌≡◌, ℕ, ◌<◌, None, length, get_or, tak
 use Rattle.std.specs.Bool.{then_some}
 use Rattle.std.specs.List.{list_any}
 use Rattle.control.specs.Texts.{calls}
-use Rattle.rules.proofs.text.Text.called_addresses.Given as goal
+use Rattle.rules.proofs.text.Text.fill_called.Given as goal
 
 -- the addresses that the instructions so far call
 abbrev pub invariant-loop-kind : goal.invariant-loop-kind

@@ -3,7 +3,7 @@ use Rattle.std.specs.Bool.{then_some}
 use Rattle.control.specs.Texts.{called, ranks}
 use Rattle.control.specs.Rules.{place}
 use Rattle.rules.proofs.Measuring.{Stands}
-use Rattle.rules.proofs.text.Text.places.Given as goal
+use Rattle.rules.proofs.text.Text.fill_places.Given as goal
 
 -- the places so far, that of the next instruction, and what is asked of the sections
 abbrev pub invariant-loop-n : goal.invariant-loop-n

@@ -5,7 +5,7 @@ use Rattle.control.specs.declared.control.Control.TheVariants.{Plain}
 use Rattle.control.specs.Rules.{first_found}
 use Rattle.loading.specs.Verdicts.{broken_alone, kind_at}
 use Rattle.loading.proofs.Chunking.{Taken}
-use Rattle.loading.proofs.image.Image.control_text.Given as goal
+use Rattle.loading.proofs.image.Image.fill_text.Given as goal
 
 -- each instruction so far keeps its rules, and its kind is noted
 abbrev pub invariant-loop-bytes : goal.invariant-loop-bytes

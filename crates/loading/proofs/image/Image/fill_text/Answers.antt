@@ -11,12 +11,12 @@ use Rattle.loading.specs.Instructions.{alone}
 use Rattle.loading.specs.Verdicts.{FailsAlone, broken_alone, kind_at}
 use Rattle.loading.proofs.Chunking.{Taken, start, next, ended, pushed}
 use Rattle.loading.proofs.Passing.{mapped_err, sized, alone_ok, alone_err, kinds_are}
-use Rattle.loading.proofs.image.Image.control_text.Goals as goal
+use Rattle.loading.proofs.image.Image.fill_text.Goals as goal
 
 pub loop-bytes-init : goal.loop-bytes-init
 loop-bytes-init c =
     let image = c.args.self.bytes.now in
-    let none : array_vec_len c.new-kinds.result ≡ 0 = ap length c.new-kinds.ensures in
+    let none : array_vec_len c.args.kinds.now ≡ 0 = ap length c.requires in
     let all = ap chunks_exact_rest c.into_iter-bytes-iterator.ensures.into_iter_gives ∙ c.chunks_exact-bytes-items.ensures.rest in (
       search rules,
       subst (Taken image (chunks_exact_rest c.into_iter-bytes-iterator.result)) (sym none) (subst (λ l. Taken image l 0) (sym all) (start image)),

@@ -1,14 +1,16 @@
-use Rattle.std.proofs.Common.{◌≡◌, ℕ, ◌+◌, ◌<◌, get_or, None, sym, ap, ◌∙◌, arith}
+use Rattle.std.proofs.Common.{◌≡◌, ℕ, ◌+◌, ◌<◌, Option, get_or, None, sym, ap, ◌∙◌, arith, rules}
 use Rattle.std.specs.Bool.{then_some}
-use Rattle.std.proofs.lemmas.List.{length-replicate, length-set}
-use Rattle.control.specs.declared.place.Place.{Place}
+use Rattle.std.proofs.lemmas.List.{get_or-replicate, length-set}
 use Rattle.control.specs.Texts.{called, ranks}
 use Rattle.rules.proofs.Measuring.{depth_start, section_start, rank_start, asked_start, asked_next, ranks_low, depth_high, last_is, placed, mapped_more, stands_next}
-use Rattle.rules.proofs.text.Text.places.Goals as goal
+use Rattle.rules.proofs.text.Text.fill_places.Goals as goal
+
+pub fill_called-requires : goal.fill_called-requires
+fill_called-requires c = λ s h. get_or-replicate {A = Option ℕ} 1025 s None None h
 
 pub loop-n-init : goal.loop-n-init
 loop-n-init c = let text = c.args.self.kinds.now in record {
-  long = length-replicate {A = Place} 1024 c.default-places.result;
+  long = search rules;
   table = λ k h. absurd (omega (arith, h));
   stands = record {
     number = c.default.ensures.0;
@@ -16,7 +18,7 @@ loop-n-init c = let text = c.args.self.kinds.now in record {
     section = c.default.ensures.1.1.0 ∙ sym (section_start text);
     rank = c.default.ensures.1.1.1.0 ∙ sym (rank_start text);
   };
-  asked = λ s h. c.called_addresses-asked.ensures s h ∙ ap (then_some (called text s)) (sym (asked_start text s));
+  asked = λ s h. c.fill_called.ensures s h ∙ ap (then_some (called text s)) (sym (asked_start text s));
 }
 
 pub ask-requires-clause-low : goal.ask-requires-clause-low
