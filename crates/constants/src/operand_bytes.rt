@@ -19,6 +19,8 @@ pub struct OperandBytes {
 
 impl OperandBytes {
     // The number that the bytes stand for, or None if they stand for none. A last byte of 0 makes it zero, whatever the others are.
+    // Inlined, with `nonzero`, since a call would hand the bytes over packed together, to be taken apart again.
+    #[inline(always)]
     pub fn constant(self) -> Option<f64>
         ensures answer { result ≡ value self.p1 self.p2 self.p3 self.p4 }
         ensures decimal { lawful self.p1 self.p2 self.p3 self.p4 ≡ true
@@ -32,6 +34,7 @@ impl OperandBytes {
         }
     }
 
+    #[inline(always)]
     fn nonzero(self) -> Option<f64>
         ensures { result ≡ nonzero self.p1 self.p2 self.p3 self.p4 }
     {

@@ -8,7 +8,8 @@ use crate::part::{byte_of, field_of, whole_of};
 use constants::OperandBytes;
 use records::Layout;
 
-// The bytes are a part of an image.
+// The bytes are a part of an image. Inlined, since how many they are is known where they are cut out, and no test of it is left there.
+#[inline(always)]
 pub fn decode_operand(bytes: &[u8], layouts: &[Layout; 8]) -> Option<Operand>
     ensures { result ≡ operand layouts.now bytes.now }
 {
@@ -28,6 +29,8 @@ pub fn byte_at(bytes: &[u8], i: usize) -> u8
     bytes.get(i).copied().unwrap_or(0)
 }
 
+// Inlined, since a call would hand the bytes over packed together, through memory, to be taken apart again.
+#[inline(always)]
 fn decode(bytes: OperandBytes, layouts: &[Layout; 8]) -> Option<Operand>
     ensures { result ≡ operand_of layouts.now bytes.p1 bytes.p2 bytes.p3 bytes.p4 }
 {
